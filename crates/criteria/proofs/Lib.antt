@@ -1,0 +1,15 @@
+pub mod Decide
+pub mod Order
+pub mod Fraction
+pub mod Unique
+pub mod Agree
+pub mod Bound
+pub mod Finite
+pub mod Reduce
+pub mod Passes
+pub mod Exist
+pub mod Demand
+pub mod Budget
+pub mod Ceilings
+pub mod Small
+pub mod Check

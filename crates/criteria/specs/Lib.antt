@@ -1,0 +1,7 @@
+-- What a best plan is, over any problem: document 01, "Four ways to choose" and "First" of "Tables"; demand 3; document 02, [13].
+-- Nothing here knows of tables, bytes or an algorithm.
+pub mod Order
+pub mod Fraction
+pub mod Choice
+pub mod Demand
+pub mod Passes

@@ -1,0 +1,10 @@
+pub mod CellLaws
+pub mod Tests
+pub mod LegalLaws
+pub mod RoomLaws
+pub mod RefusalLaws
+pub mod Listing
+pub mod Bench
+pub mod SeriesLaws
+pub mod Totals
+pub mod Hidden

@@ -1,0 +1,72 @@
+-- A refusal is settled by its number and what it carries, and its number is never 0. Assumes nothing.
+use mathlib.Core.Path.{_≡_, refl, sym, ap, _∙_}
+use mathlib.Core.Bool.{Bool, true, false}
+use mathlib.Core.List.{List, [], _∷_}
+use Prim.Native.Nat.{ℕ}
+use native.Mathlib.Omega.{arith}
+use lib.Dec.{eqb}
+use lib.ListN.{getD}
+use Rattle.tables.specs.declared.refusal.Refusal.{Refusal}
+use Rattle.tables.specs.declared.refusal.Refusal.the-variants.{Scans, Settings, StepLaw, Multiplier, Lengths, Buffer, Cell, NoSequence, NoneWithin, Channels, FileLength, Block, Header, Entry}
+use Rattle.tables.specs.Refusals.{Reply, refused, answered, numberOf, carriedBy}
+
+abbrev pick : Bool → Refusal → Refusal → Refusal
+pick true r s = r
+pick false r s = s
+
+-- the refusal of a number that carries k
+abbrev pub refusal-of : ℕ → ℕ → Refusal
+refusal-of n k =
+    pick (eqb n 1) Scans
+    (pick (eqb n 2) Settings
+    (pick (eqb n 3) StepLaw
+    (pick (eqb n 4) Multiplier
+    (pick (eqb n 5) Lengths
+    (pick (eqb n 6) Buffer
+    (pick (eqb n 7) (Cell k)
+    (pick (eqb n 8) NoSequence
+    (pick (eqb n 9) NoneWithin
+    (pick (eqb n 10) Channels
+    (pick (eqb n 11) FileLength
+    (pick (eqb n 12) (Block k)
+    (pick (eqb n 13) (Header k) (Entry k)))))))))))))
+
+pub refusal-back : (r : Refusal) → refusal-of (numberOf r) (carriedBy r) ≡ r
+refusal-back Scans = refl
+refusal-back Settings = refl
+refusal-back StepLaw = refl
+refusal-back Multiplier = refl
+refusal-back Lengths = refl
+refusal-back Buffer = refl
+refusal-back (Cell k) = refl
+refusal-back NoSequence = refl
+refusal-back NoneWithin = refl
+refusal-back Channels = refl
+refusal-back FileLength = refl
+refusal-back (Block b) = refl
+refusal-back (Header byte) = refl
+refusal-back (Entry e) = refl
+
+pub refused-unique : {r r′ : Refusal} → refused r ≡ refused r′ → r ≡ r′
+refused-unique {r} {r′} e =
+    sym (refusal-back r) ∙ ap (λ (x : Reply). refusal-of (x .number) (getD (x .values) 0 0)) e ∙ refusal-back r′
+
+pub never-zero : (r : Refusal) → numberOf r ≡ 0 → ⊥
+never-zero Scans e = omega arith
+never-zero Settings e = omega arith
+never-zero StepLaw e = omega arith
+never-zero Multiplier e = omega arith
+never-zero Lengths e = omega arith
+never-zero Buffer e = omega arith
+never-zero (Cell k) e = omega arith
+never-zero NoSequence e = omega arith
+never-zero NoneWithin e = omega arith
+never-zero Channels e = omega arith
+never-zero FileLength e = omega arith
+never-zero (Block b) e = omega arith
+never-zero (Header byte) e = omega arith
+never-zero (Entry k) e = omega arith
+
+-- an answer is no refusal
+pub answered-or-refused : {v : List ℕ} (r : Refusal) → answered v ≡ refused r → ⊥
+answered-or-refused r e = never-zero r (sym (ap (λ (x : Reply). x .number) e))

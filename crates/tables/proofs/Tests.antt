@@ -1,0 +1,46 @@
+-- From the code's tests to the definitions' words and back. Assumes nothing.
+use mathlib.Core.Path.{_≡_, refl}
+use mathlib.Core.Logic.{_↔_, _⊎_, inl, inr, ⊎-elim}
+use mathlib.Core.Bool.{Bool, true, false, not, _||_}
+use Prim.Native.Nat.{ℕ, zero, suc, _+_, _-_, _≤_, _<_}
+use native.Mathlib.Omega.{arith}
+use lib.Dec.{leb, ltb, eqb}
+use borrow.Author.Tests.{leb-true, le-leb, eqb-true, eq-eqb, ne-eqb, ltb-true, ltb-false, lt-ltb, le-ltb, eqb-false}
+use Rattle.tables.specs.Limits.{most-scans}
+use Rattle.tables.specs.Tables.{within-two, law-of}
+use Rattle.tables.specs.Planning.{zero-or-over}
+
+-- a test that is the first of two ways, and holds
+pub first-holds : {A B : Type 0} → A → (true ≡ true) ↔ (A ⊎ B)
+first-holds a = ((λ e. inl a), (λ w. refl))
+
+-- where the first of two ways does not hold, the test is the second
+pub second-decides : {A : Type 0} (x y : ℕ) → (A → ⊥) → (eqb x y ≡ true) ↔ (A ⊎ (x ≡ y))
+second-decides x y no-a = ((λ e. inr (eqb-true x y e)), (λ w. ⊎-elim (λ a. absurd (no-a a)) (λ e. eq-eqb x y e) w))
+
+-- two settings of which one is the higher, by their difference
+pub up-by-two : {p q : ℕ} → p < q → (leb (q - p) 2 ≡ true) ↔ within-two p q
+up-by-two {p} {q} h = ((λ e. (omega arith, omega (arith, leb-true (q - p) 2 e))), (λ w. le-leb (q - p) 2 (omega arith)))
+
+pub down-by-two : {p q : ℕ} → q ≤ p → (leb (p - q) 2 ≡ true) ↔ within-two p q
+down-by-two {p} {q} h = ((λ e. (omega (arith, leb-true (p - q) 2 e), omega arith)), (λ w. le-leb (p - q) 2 (omega arith)))
+
+-- "is 0 or over": what is known of a number that is not
+pub in-range : {most x : ℕ} → zero-or-over most x ≡ false → (1 ≤ x) × (x ≤ most)
+unfolding zero-or-over
+in-range {most} {x} e = both (eqb x 0) (ltb most x) (eqb-false x 0) (ltb-false most x) e
+  where
+    both : (a b : Bool) → (a ≡ false → x ≡ 0 → ⊥) → (b ≡ false → x ≤ most) → (a || b) ≡ false → (1 ≤ x) × (x ≤ most)
+    both true b f g e = absurd (let z : _≡_ {A = ℕ} 0 1 = cc in omega arith)
+    both false true f g e = absurd (let z : _≡_ {A = ℕ} 0 1 = cc in omega arith)
+    both false false f g e = (let n = f refl in omega arith, g refl)
+
+-- any number but 0 and 1 is no law
+pub no-law : (law p q : ℕ) → (law ≡ 0 → ⊥) → (law ≡ 1 → ⊥) → (false ≡ true) ↔ law-of law p q
+no-law zero p q h g = absurd (h refl)
+no-law (suc zero) p q h g = absurd (g refl)
+no-law (suc (suc k)) p q h g = ((λ e. let z : _≡_ {A = ℕ} 0 1 = cc in omega arith), (λ w. absurd w))
+
+-- a test and its denial do not both hold
+pub clash : {t : Bool} → not t ≡ true → t ≡ true → ⊥
+clash {t} e f = let z : false ≡ true = (rw f at e) in let y : _≡_ {A = ℕ} 0 1 = cc in omega arith

@@ -1,0 +1,16 @@
+-- `tables::room::outside` meets its contract. Assumes nothing.
+use borrow.Author.Tests.{eq-eqb, ne-eqb}
+use Rattle.tables.specs.Planning.{zero-or-over}
+use Rattle.tables.proofs.room.outside.Statement.{statement}
+use Rattle.tables.proofs.room.outside.Tie as tie
+
+returns : tie.Need-returns
+unfolding zero-or-over
+returns c = simp (eq-eqb _ _ (c .if1 .taken))
+
+returns-2 : tie.Need-returns-2
+unfolding zero-or-over
+returns-2 c = simp (ne-eqb _ _ (c .if1 .left))
+
+pub outside-spec : {M : Type 1} → statement M
+outside-spec = tie.close (tie.spec returns returns-2)

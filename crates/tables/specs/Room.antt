@@ -1,0 +1,33 @@
+-- Document 01, "Room". Assumes nothing.
+use mathlib.Core.Option.{Option, none, some}
+use mathlib.Core.List.{List, [], _∷_}
+use Prim.Native.Nat.{ℕ, _*_}
+use Rattle.tables.specs.declared.refusal.Refusal.{Refusal}
+use Rattle.tables.specs.declared.refusal.Refusal.the-variants as refusal
+use Rattle.tables.specs.declared.room.RoomAnswer.{RoomAnswer}
+use Rattle.tables.specs.declared.room.RoomAnswer.the-variants.{Given, Refused}
+use Rattle.tables.specs.Refusals.{Reply, refused, answered}
+use Rattle.tables.specs.Tables.{cells}
+use Rattle.tables.specs.Planning.{Check, first-refusal, channels-out, scans-out, settings-out}
+
+-- "Room checks 10, 1, 2."
+abbrev pub room-checks : ℕ → ℕ → ℕ → List Check
+room-checks C N Q =
+    record { fails = channels-out C; gives = refusal.Channels }
+    ∷ record { fails = scans-out N; gives = refusal.Scans }
+    ∷ record { fails = settings-out Q; gives = refusal.Settings }
+    ∷ []
+
+abbrev pub or-answer : Option Refusal → List ℕ → Reply
+or-answer none v = answered v
+or-answer (some r) v = refused r
+
+-- "For C channels, N and Q, the answer is the cells of one table, bytes of one table for all channels (4 × C × cells), and scratch bytes
+-- N × Q for one call."
+unfoldable pub room-of : ℕ → ℕ → ℕ → Reply
+room-of C N Q = or-answer (first-refusal (room-checks C N Q)) (cells N Q ∷ 4 * C * cells N Q ∷ N * Q ∷ [])
+
+-- the number and the values of the call's answer
+abbrev pub room-reply : RoomAnswer → Reply
+room-reply (Given g) = answered (g .cells ∷ g .bytes ∷ g .scratch ∷ [])
+room-reply (Refused r) = refused r

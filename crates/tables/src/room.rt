@@ -1,0 +1,54 @@
+// The room question.
+use crate::cells;
+use crate::limits::MOST_CHANNELS;
+use crate::limits::MOST_SCANS;
+use crate::limits::MOST_SETTINGS;
+use crate::refusal::Refusal;
+ghost use mathlib.Core.Path.{_≡_};
+ghost use Rattle.tables.specs.Planning.{«zero-or-over»};
+ghost use Rattle.tables.specs.Room.{«room-of», «room-reply»};
+
+pub struct Room {
+    // the cells of one table
+    pub cells: u64,
+    // bytes of one table for all channels
+    pub bytes: u64,
+    // scratch bytes for one call
+    pub scratch: u64,
+}
+
+pub enum RoomAnswer {
+    Given(Room),
+    Refused(Refusal),
+}
+
+// Is the number outside 1 to most?
+pub fn outside(most: u64, x: u64) -> bool
+    ensures { λ r. ⌜ r ≡ zero-or-over most x ⌝ }
+{
+    if x == 0 {
+        return true;
+    }
+    most < x
+}
+
+// What a host needs to lend for its channels, scans and settings: the true products, or a refusal.
+pub fn room_for(channels: u64, scans: u64, settings: u64) -> RoomAnswer
+    ensures { λ r. ⌜ room-reply r ≡ room-of channels scans settings ⌝ }
+{
+    if outside(MOST_CHANNELS, channels) {
+        return RoomAnswer::Refused(Refusal::Channels);
+    }
+    if outside(MOST_SCANS, scans) {
+        return RoomAnswer::Refused(Refusal::Scans);
+    }
+    if outside(MOST_SETTINGS, settings) {
+        return RoomAnswer::Refused(Refusal::Settings);
+    }
+    let cells = cells::count(scans, settings);
+    RoomAnswer::Given(Room {
+        cells,
+        bytes: 4 * channels * cells,
+        scratch: scans * settings,
+    })
+}
