@@ -24,10 +24,11 @@ pub record Small (S : Series) : Type 0 where
   pub distortion : (i p q : ℕ) → S .may i p q → S .distortion i p q ≤ most-cell
   pub height : (i p q : ℕ) → S .may i p q → S .height i p q ≤ most-cell
 
-total-small : (S : Series) (f : ℕ → ℕ → ℕ → ℕ) → ((i p q : ℕ) → S .may i p q → f i p q ≤ most-cell) →
-    (i p : ℕ) (s : List ℕ) → Kept S i p s → total f i p s ≤ length s * most-cell
-total-small S f h i p [] k = omega arith
-total-small S f h i p (q ∷ s) k = omega (arith, h i p q (k .1), total-small S f h (suc i) q s (k .2))
+-- steps of at most c each
+pub total-small : (S : Series) (f : ℕ → ℕ → ℕ → ℕ) (c : ℕ) → ((i p q : ℕ) → S .may i p q → f i p q ≤ c) →
+    (i p : ℕ) (s : List ℕ) → Kept S i p s → total f i p s ≤ length s * c
+total-small S f c h i p [] k = omega arith
+total-small S f c h i p (q ∷ s) k = omega (arith, h i p q (k .1), total-small S f c h (suc i) q s (k .2))
 
 largest-small : (S : Series) (f : ℕ → ℕ → ℕ → ℕ) → ((i p q : ℕ) → S .may i p q → f i p q ≤ most-cell) →
     (i p : ℕ) (s : List ℕ) → Kept S i p s → largest f i p s ≤ most-cell
@@ -36,16 +37,16 @@ largest-small S f h i p (q ∷ s) k = omega (arith, h i p q (k .1), largest-smal
 
 module _ (S : Series) (c : Small S) (s : List ℕ) (a : problem S .allowed s) where
   pub rate-small : problem S .rate s ≤ most-total
-  rate-small = omega (arith, a .0, c .scans, total-small S (S .rate) (c .rate) 0 0 s (a .1))
+  rate-small = omega (arith, a .0, c .scans, total-small S (S .rate) most-cell (c .rate) 0 0 s (a .1))
 
   pub distortion-small : problem S .distortion s ≤ most-total
-  distortion-small = omega (arith, a .0, c .scans, total-small S (S .distortion) (c .distortion) 0 0 s (a .1))
+  distortion-small = omega (arith, a .0, c .scans, total-small S (S .distortion) most-cell (c .distortion) 0 0 s (a .1))
 
   pub peak-small : problem S .peak s ≤ most-cell
   peak-small = largest-small S (S .height) (c .height) 0 0 s (a .1)
 
 -- past the end of a table nothing stands, so every cell of a legal table is legal, whatever its number
-legal-anywhere : (rates distortions : List ℕ) → length distortions ≡ length rates → AllLegal rates distortions →
+pub legal-anywhere : (rates distortions : List ℕ) → length distortions ≡ length rates → AllLegal rates distortions →
     (k : ℕ) → LegalCell rates distortions k
 legal-anywhere rates distortions e l k = by-place (decLt k (length rates))
   where

@@ -1,0 +1,17 @@
+-- `trellis::least::pick` meets its contract: the candidates, and the least of them. Assumes nothing.
+use Rattle.trellis.proofs.RunLaws.{best-same}
+use borrow.Author.Needs.{needs}
+use Rattle.trellis.proofs.least.pick.Statement.{statement}
+use Rattle.trellis.proofs.least.pick.Tie as tie
+
+sums-requires : tie.Need-sums-requires
+sums-requires c κs = search needs
+
+least-requires : tie.Need-least-requires
+least-requires c κs = search needs
+
+returns : tie.Need-returns
+returns c = (c .before .before .sums .ensures .0, best-same (c .before .before .sums .ensures .1) (c .least .ensures))
+
+pub pick-spec : {M : Type 1} → statement M
+pick-spec = tie.close (tie.spec sums-requires least-requires returns)

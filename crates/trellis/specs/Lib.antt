@@ -1,0 +1,5 @@
+pub mod Step
+pub mod Stepped
+pub mod Chosen
+pub mod Pass
+pub mod Walked

@@ -1,0 +1,57 @@
+-- What a pass is asked, and what it leaves. Assumes nothing.
+use mathlib.Core.Path.{_≡_}
+use mathlib.Core.Bool.{Bool, true, false}
+use mathlib.Core.List.{List}
+use Prim.Native.Nat.{ℕ, _+_, _*_, _≤_, _<_}
+use lib.ListN.{length, getD}
+use Rattle.criteria.specs.Choice.{Problem, NoneAllowed}
+use Rattle.tables.specs.Limits.{most-scans, most-settings}
+use Rattle.tables.specs.Series.{Series, problem}
+use Rattle.tables.specs.Tables.{cells, table, series}
+use Rattle.tables.specs.Legal.{AllLegal}
+use Rattle.tables.specs.Planning.{law-out}
+use Rattle.weights.specs.OneKey.{Least, wide}
+use Rattle.trellis.specs.declared.least.Rule.{Rule}
+use Rattle.trellis.specs.Chosen.{chosen}
+
+-- what the checks 1 to 7 have passed: N, Q, law, the tables and the length of the scratch
+pub record Fit (N Q law : ℕ) (rates distortions : List ℕ) (scratch : ℕ) : Type 0 where
+  pub some-scans : 1 ≤ N
+  pub scans : N ≤ most-scans
+  pub some-settings : 1 ≤ Q
+  pub settings : Q ≤ most-settings
+  pub law-known : law-out law ≡ false
+  pub rates-long : length rates ≡ cells N Q
+  pub distortions-long : length distortions ≡ cells N Q
+  pub legal : AllLegal rates distortions
+  pub room : N * Q ≤ scratch
+
+-- weights of 31 bits
+abbrev pub Light : Rule → Type 0
+Light rule = (rule .a < wide) × (rule .b < wide)
+
+-- a series' steps that stay under a ceiling
+abbrev pub under : ℕ → Series → Series
+under X S = record {
+  scans = S .scans;
+  settings = S .settings;
+  may = λ i p q. S .may i p q × (S .height i p q ≤ X);
+  rate = S .rate;
+  distortion = S .distortion;
+  height = S .height;
+}
+
+-- the sequences that a pass looks at
+abbrev pub asked : (N Q law : ℕ) (rates distortions : List ℕ) → ℕ → Problem
+asked N Q law rates distortions X = problem (under X (series (table N Q law rates distortions)))
+
+-- the one number that a pass compares
+abbrev pub weighed : Problem → Rule → List ℕ → ℕ
+weighed P rule t = rule .a * P .distortion t + rule .b * P .rate t
+
+-- Whether there is a sequence; if so, the choices lead along the least by weight, and of equals the first. Scratch past N × Q is as it was.
+pub record Passed (P : Problem) (N Q : ℕ) (rule : Rule) (before after : List ℕ) (found : Bool) : Type 0 where
+  pub none : found ≡ false → NoneAllowed P
+  pub some : found ≡ true → Least (P .allowed) (weighed P rule) (chosen Q N after)
+  pub long : length after ≡ length before
+  pub rest : (i : ℕ) → N * Q ≤ i → getD after i 0 ≡ getD before i 0

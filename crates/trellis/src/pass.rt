@@ -1,0 +1,101 @@
+// One pass, from the last scan to the first.
+use crate::band;
+use crate::least::NO_WAY;
+use crate::least::Rule;
+use crate::least::pick;
+use crate::square::row_into;
+use crate::square::square_into;
+ghost use mathlib.Core.Path.{_≡_};
+ghost use mathlib.Core.List.{[]};
+ghost use Prim.Native.Nat.{ℕ, _+_, _*_, _≤_, _<_};
+ghost use lib.ListN.{getD, length};
+ghost use Rattle.tables.specs.Planning.{«law-out»};
+ghost use Rattle.trellis.specs.Step.{Ready};
+ghost use Rattle.trellis.specs.Stepped.{Stepped};
+ghost use Rattle.trellis.specs.Pass.{Fit, Light, Passed, asked};
+
+// One scan, from its squares: what lies ahead of each setting before it, and the choices, stored from `to` on.
+fn step(
+    rates: [[u32; 16]; 16],
+    distortions: [[u32; 16]; 16],
+    rule: Rule,
+    law: u64,
+    keys: &mut [u64; 16],
+    scratch: &mut [u8],
+    to: usize,
+    k: usize,
+)
+    requires { ⌜ (k ≤ 16) × ((to + k ≤ length (now scratch)) × (length (now keys) ≡ 16)) ⌝ }
+    requires { ⌜ Light rule ⌝ }
+    requires { ⌜ ((p : ℕ) → p < k → Ready k (getD rates p []) (getD distortions p []) (now keys)) ⌝ }
+    ensures { λ _. ⌜ Stepped rule law k to rates distortions (now (keys .entry)) (now (keys .exit)) (now (scratch .entry)) (now (scratch .exit)) ⌝ }
+{
+    let ahead = *keys;
+    let mut room = [0u64; 16];
+    for p in 0..k {
+        let best = pick(
+            &mut room,
+            &rates[p],
+            &distortions[p],
+            rule,
+            &ahead,
+            band::from(law, p),
+            band::to(law, p, k),
+        );
+        keys[p] = best.key.0;
+        scratch[to + p] = best.first as u8;
+    }
+}
+
+// The whole pass: is there a sequence under the ceiling? If so the choices in scratch lead along the best.
+pub fn pass(
+    scans: usize,
+    settings: usize,
+    law: u64,
+    rule: Rule,
+    rates: &[u32],
+    distortions: &[u32],
+    scratch: &mut [u8],
+) -> bool
+    requires { ⌜ Fit scans settings law (now rates) (now distortions) (length (now scratch)) ⌝ }
+    requires { ⌜ Light rule ⌝ }
+    ensures { λ r. ⌜ Passed (asked scans settings law (now (rates .entry)) (now (distortions .entry)) (rule .ceiling)) scans settings rule (now (scratch .entry)) (now (scratch .exit)) r ⌝ }
+{
+    let mut keys = [0u64; 16];
+    let mut rate_square = [[0u32; 16]; 16];
+    let mut distortion_square = [[0u32; 16]; 16];
+    let size = settings * settings;
+    let mut i = scans - 1;
+    while 0 < i {
+        let at = settings + (i - 1) * size;
+        square_into(&mut rate_square, rates, at, settings);
+        square_into(&mut distortion_square, distortions, at, settings);
+        step(
+            rate_square,
+            distortion_square,
+            rule,
+            law,
+            &mut keys,
+            scratch,
+            i * settings,
+            settings,
+        );
+        i -= 1;
+    }
+    let mut room = [0u64; 16];
+    let mut first_rates = [0u32; 16];
+    let mut first_distortions = [0u32; 16];
+    row_into(&mut first_rates, rates, 0, settings);
+    row_into(&mut first_distortions, distortions, 0, settings);
+    let best = pick(
+        &mut room,
+        &first_rates,
+        &first_distortions,
+        rule,
+        &keys,
+        0,
+        settings,
+    );
+    scratch[0] = best.first as u8;
+    best.key.0 < NO_WAY
+}

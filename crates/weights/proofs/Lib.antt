@@ -1,0 +1,2 @@
+pub mod OneKeyLaws
+pub mod BesideLaws
