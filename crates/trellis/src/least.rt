@@ -153,6 +153,11 @@ pub fn pick<'a>(
     ensures { λ r. ⌜ length (now (room .exit)) ≡ 16 ⌝ }
     ensures { λ r. ⌜ BestOf (candidate rule (now (rates .entry)) (now (distortions .entry)) (now (keys .entry))) lo hi (r .key .0) (r .first) ⌝ }
 {
+    // A run that starts at 0 is the common one, and quicker where the compiler knows its start.
+    if lo == 0 {
+        sums(room, rates, distortions, rule, keys, 0, hi);
+        return least(room, 0, hi);
+    }
     sums(room, rates, distortions, rule, keys, lo, hi);
     least(room, lo, hi)
 }
