@@ -40,7 +40,7 @@ module _ (P : Problem) where
   slopes-average {B} {n} {d} w a f a′ f′ = let e = slopes-end w a f a′ f′ in average-reduced P n d B (e .whole) (e .plan) (e .fits) (e .certificate)
 
   -- a plan has the least distortion of those with no more rate
-  pareto : (n d : ℕ) {x : List ℕ} → 1 ≤ d → Multiplier P n d x → (t : List ℕ) → P .allowed t → P .rate t ≤ P .rate x → P .distortion x ≤ P .distortion t
+  pub pareto : (n d : ℕ) {x : List ℕ} → 1 ≤ d → Multiplier P n d x → (t : List ℕ) → P .allowed t → P .rate t ≤ P .rate x → P .distortion x ≤ P .distortion t
   pareto n d k p t a h = le-of-mul-le-mul-left {k = d} (omega (arith, cheapest P n d p t a, mul-le-mul-left n h)) k
 
   -- so one that costs less has another rate
@@ -53,7 +53,7 @@ module _ (P : Problem) where
     planned : (n d : ℕ) → 1 ≤ d → Multiplier P n d x → Origin x
 
   -- a plan at the slope, if it costs less, lies strictly between lo and hi
-  climbs : {lo hi t : List ℕ} {n d : ℕ} → Origin lo → P .allowed hi → Slope P lo hi n d t → 1 ≤ d → cost P n d t < cost P n d lo → P .rate lo < P .rate t
+  pub climbs : {lo hi t : List ℕ} {n d : ℕ} → Origin lo → P .allowed hi → Slope P lo hi n d t → 1 ≤ d → cost P n d t < cost P n d lo → P .rate lo < P .rate t
   climbs {lo} {hi} {t} {n} {d} (thrifty b) a l k c =
       let r = then-le (b .ahead t (l .plan .one)) in
       let e : P .rate lo ≢ P .rate t = differs n d lo t (λ h. then-le (then-tie (b .ahead t (l .plan .one)) h)) c in
@@ -64,7 +64,7 @@ module _ (P : Problem) where
       let e : P .rate lo ≢ P .rate t = differs n d lo t (pareto n₁ d₁ k₁ p₁ t (l .plan .one)) c in
       omega arith
 
-  descends : (n₂ d₂ : ℕ) {lo hi t : List ℕ} {n d : ℕ} → 1 ≤ d₂ → Multiplier P n₂ d₂ hi → P .allowed lo → Slope P lo hi n d t → cost P n d t < cost P n d lo →
+  pub descends : (n₂ d₂ : ℕ) {lo hi t : List ℕ} {n d : ℕ} → 1 ≤ d₂ → Multiplier P n₂ d₂ hi → P .allowed lo → Slope P lo hi n d t → cost P n d t < cost P n d lo →
       P .rate t < P .rate hi
   descends n₂ d₂ {lo} {hi} {t} {n} {d} k₂ p₂ a l c =
       let h : n₂ * d ≤ n * d₂ = omega (arith, cheapest P n₂ d₂ p₂ lo a, ap (λ (x : ℕ). d₂ * x) (l .fall), ap (λ (x : ℕ). n₂ * x) (l .rise)) in
@@ -72,7 +72,7 @@ module _ (P : Problem) where
       let e : P .rate hi ≢ P .rate t = differs n d hi t (pareto n₂ d₂ k₂ p₂ t (l .plan .one)) (omega (arith, ends-tie l)) in
       omega arith
 
-  origin-allowed : {x : List ℕ} → Origin x → P .allowed x
+  pub origin-allowed : {x : List ℕ} → Origin x → P .allowed x
   origin-allowed (thrifty b) = b .one
   origin-allowed (planned n d k p) = p .one
 

@@ -2,11 +2,11 @@
 use mathlib.Core.Path.{_≡_}
 use mathlib.Core.Bool.{Bool, true, false, not, _||_}
 use mathlib.Core.Option.{Option, none, some}
-use mathlib.Core.List.{List, [], _∷_, _++_}
+use mathlib.Core.List.{List, [], _∷_}
 use Prim.Native.Nat.{ℕ, _*_}
 use lib.Dec.{eqb, ltb}
 use lib.ListN.{length}
-use Rattle.criteria.specs.Choice.{Problem, NoneAllowed, NoneWithin}
+use Rattle.criteria.specs.Choice.{Problem}
 use Rattle.tables.specs.declared.refusal.Refusal.{Refusal}
 use Rattle.tables.specs.declared.refusal.Refusal.the-variants as refusal
 use Rattle.tables.specs.Limits.{most-scans, most-settings, most-term, most-channels}
@@ -72,45 +72,27 @@ pub record Asked : Type 0 where
 abbrev pub problem-of : Asked → Problem
 problem-of a = planning (table (a .N) (a .Q) (a .law) (a .rates) (a .distortions))
 
--- "4 only for a multiplier call"
-abbrev pub multiplier-check : ℕ → ℕ → List Check
-multiplier-check n d = record { fails = multiplier-out n d; gives = refusal.Multiplier } ∷ []
-
--- "Planning checks in the order 1 to 9": the six that look at numbers and lengths, with `fourth` in the place of 4 (no check, or that one)
-abbrev pub planning-checks : List Check → Asked → List Check
+-- "Planning checks in the order 1 to 9 (4 only for a multiplier call ..)": the six that look at numbers and lengths. `fourth` says whether
+-- 4 applies and fails: `multiplier-out n d` for a multiplier call, false for every other.
+abbrev pub planning-checks : Bool → Asked → List Check
 planning-checks fourth a =
     record { fails = scans-out (a .N); gives = refusal.Scans }
     ∷ record { fails = settings-out (a .Q); gives = refusal.Settings }
     ∷ record { fails = law-out (a .law); gives = refusal.StepLaw }
-    ∷ fourth
-    ++ record { fails = lengths-out (a .N) (a .Q) (a .rates) (a .distortions); gives = refusal.Lengths }
+    ∷ record { fails = fourth; gives = refusal.Multiplier }
+    ∷ record { fails = lengths-out (a .N) (a .Q) (a .rates) (a .distortions); gives = refusal.Lengths }
     ∷ record { fails = buffers-short (a .N) (a .Q) (a .plan) (a .scratch); gives = refusal.Buffer }
     ∷ []
 
--- no check of 1 to 7 fails
-pub record Sound (fourth : List Check) (a : Asked) : Type 0 where
-  pub passed : first-refusal (planning-checks fourth a) ≡ none
+unfoldable pub early-refusal : Bool → Asked → Option Refusal
+early-refusal fourth a = first-refusal (planning-checks fourth a)
+
+-- one of the checks 1 to 7 fails, and this is the refusal of the first that does
+pub data Unsound (fourth : Bool) (a : Asked) : Refusal → Type 0 where
+  early : {r : Refusal} → early-refusal fourth a ≡ some r → Unsound fourth a r
+  illegal : {k : ℕ} → early-refusal fourth a ≡ none → LowestIllegal (a .rates) (a .distortions) k → Unsound fourth a (refusal.Cell k)
+
+-- none of the checks 1 to 7 fails
+pub record Sound (fourth : Bool) (a : Asked) : Type 0 where
+  pub passed : early-refusal fourth a ≡ none
   pub legal : AllLegal (a .rates) (a .distortions)
-
--- a check of 1 to 6 fails, and this refusal is the first such check's
-abbrev pub Early : List Check → Asked → Refusal → Type 0
-Early fourth a r = first-refusal (planning-checks fourth a) ≡ some r
-
--- When a refusal is the one given, `within` being what the limit asks: all allowed sequences for a multiplier call, which so is never
--- refused by 9. (No planning call gives 10 to 14, since no check of it does.)
-abbrev pub Refused : List Check → Asked → (List ℕ → Type 0) → Refusal → Type 0
-Refused fourth a within refusal.Scans = Early fourth a refusal.Scans
-Refused fourth a within refusal.Settings = Early fourth a refusal.Settings
-Refused fourth a within refusal.StepLaw = Early fourth a refusal.StepLaw
-Refused fourth a within refusal.Multiplier = Early fourth a refusal.Multiplier
-Refused fourth a within refusal.Lengths = Early fourth a refusal.Lengths
-Refused fourth a within refusal.Buffer = Early fourth a refusal.Buffer
-Refused fourth a within (refusal.Cell k) =
-    (first-refusal (planning-checks fourth a) ≡ none) × LowestIllegal (a .rates) (a .distortions) k
-Refused fourth a within refusal.NoSequence = Sound fourth a × NoneAllowed (problem-of a)
-Refused fourth a within refusal.NoneWithin = Sound fourth a × NoneWithin (problem-of a) within
-Refused fourth a within refusal.Channels = Early fourth a refusal.Channels
-Refused fourth a within refusal.FileLength = Early fourth a refusal.FileLength
-Refused fourth a within (refusal.Block b) = Early fourth a (refusal.Block b)
-Refused fourth a within (refusal.Header byte) = Early fourth a (refusal.Header byte)
-Refused fourth a within (refusal.Entry e) = Early fourth a (refusal.Entry e)

@@ -1,0 +1,5 @@
+pub mod CheckLaws
+pub mod SeekLaws
+pub mod PromiseLaws
+pub mod MinmaxLaws
+pub mod AverageLaws

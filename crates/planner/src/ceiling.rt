@@ -1,0 +1,85 @@
+// Ceiling X: among allowed sequences with peak at most X, least rate, then least distortion, then first.
+use crate::answer::PlanAnswer;
+use crate::check::Checked;
+use crate::check::check;
+use crate::finish::finish;
+use crate::seek::NO_CEILING;
+use crate::seek::thrifty_pass;
+use tables::refusal::Refusal;
+use trellis::walk::wipe;
+ghost use mathlib.Core.Bool.{false};
+ghost use lib.ListN.{length};
+ghost use Rattle.tables.specs.Planning.{Sound};
+ghost use Rattle.planner.specs.Checked.{asking};
+ghost use Rattle.planner.specs.Promise.{CeilingPromise};
+
+// Where the checks have passed.
+fn ceiling_of(
+    scans: usize,
+    settings: usize,
+    law: u64,
+    ceiling: u32,
+    rates: &[u32],
+    distortions: &[u32],
+    plan: &mut [u8],
+    scratch: &mut [u8],
+) -> PlanAnswer
+    requires { ⌜ Sound false (asking scans settings law (now rates) (now distortions) (length (now plan)) (length (now scratch))) ⌝ }
+    ensures { λ r. ⌜ CeilingPromise (asking scans settings law (now (rates .entry)) (now (distortions .entry)) (length (now (plan .entry))) (length (now (scratch .entry)))) ceiling (now (plan .entry)) (now (scratch .entry)) r (now (plan .exit)) (now (scratch .exit)) ⌝ }
+{
+    if thrifty_pass(scans, settings, law, ceiling, rates, distortions, scratch) {
+        return PlanAnswer::Planned(finish(scans, settings, law, rates, distortions, plan, scratch));
+    }
+    // Nothing is under the ceiling: is there a sequence at all?
+    let any = thrifty_pass(
+        scans,
+        settings,
+        law,
+        NO_CEILING,
+        rates,
+        distortions,
+        scratch,
+    );
+    wipe(scratch, scans * settings);
+    if any {
+        return PlanAnswer::Refused(Refusal::NoneWithin);
+    }
+    PlanAnswer::Refused(Refusal::NoSequence)
+}
+
+pub fn ceiling_plan(
+    scans: u64,
+    settings: u64,
+    law: u64,
+    ceiling: u32,
+    rates: &[u32],
+    distortions: &[u32],
+    plan: &mut [u8],
+    scratch: &mut [u8],
+) -> PlanAnswer
+    ensures { λ r. ⌜ CeilingPromise (asking scans settings law (now (rates .entry)) (now (distortions .entry)) (length (now (plan .entry))) (length (now (scratch .entry)))) ceiling (now (plan .entry)) (now (scratch .entry)) r (now (plan .exit)) (now (scratch .exit)) ⌝ }
+{
+    let checked = check(
+        scans,
+        settings,
+        law,
+        false,
+        rates,
+        distortions,
+        plan.len(),
+        scratch.len(),
+    );
+    let Checked::Refused(r) = checked else {
+        return ceiling_of(
+            scans as usize,
+            settings as usize,
+            law,
+            ceiling,
+            rates,
+            distortions,
+            plan,
+            scratch,
+        );
+    };
+    PlanAnswer::Refused(r)
+}

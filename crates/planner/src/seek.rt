@@ -1,0 +1,120 @@
+// The two passes that the calls are made of: the least-rate plan under a ceiling, and the plan at a multiplier. Each says whether there is
+// one; its choices are then in scratch.
+use tables::refusal::Refusal;
+use trellis::least::Rule;
+use trellis::pass::pass;
+use trellis::walk::Totals;
+use trellis::walk::total_up;
+use trellis::walk::wipe;
+use weights::weigh::weigh;
+ghost use mathlib.Core.Path.{_≡_};
+ghost use Prim.Native.Nat.{_≤_, _<_};
+ghost use lib.ListN.{length};
+ghost use Rattle.tables.specs.Limits.{«most-term»};
+ghost use Rattle.tables.specs.Tables.{table, planning};
+ghost use Rattle.trellis.specs.Pass.{Fit};
+ghost use Rattle.weights.specs.OneKey.{Weighed, «rate-first»};
+ghost use Rattle.planner.specs.Search.{ThriftyPass, MultiplierPass, «no-ceiling»};
+ghost use Rattle.planner.specs.Started.{StartedAs};
+
+// Above every distortion.
+pub const NO_CEILING: u32 = 4294967295;
+
+// Rates count first, distortions where rates tie: a total of distortion stays below this weight.
+const RATE_FIRST: u32 = 1073741824;
+
+pub fn thrifty_pass(
+    scans: usize,
+    settings: usize,
+    law: u64,
+    ceiling: u32,
+    rates: &[u32],
+    distortions: &[u32],
+    scratch: &mut [u8],
+) -> bool
+    requires { ⌜ Fit scans settings law (now rates) (now distortions) (length (now scratch)) ⌝ }
+    ensures { λ r. ⌜ ThriftyPass (planning (table scans settings law (now (rates .entry)) (now (distortions .entry)))) scans settings ceiling (now (scratch .entry)) (now (scratch .exit)) r ⌝ }
+{
+    let rule = Rule {
+        a: 1,
+        b: RATE_FIRST,
+        ceiling,
+    };
+    pass(scans, settings, law, rule, rates, distortions, scratch)
+}
+
+// The weights of n/d as a rule with no ceiling.
+fn weighing(n: u64, d: u64) -> Rule
+    requires { ⌜ (n ≤ most-term) × ((1 ≤ d) × (d ≤ most-term)) ⌝ }
+    ensures { λ r. ⌜ Weighed n d (r .a) (r .b) × (r .ceiling ≡ no-ceiling) ⌝ }
+{
+    let w = weigh(n, d);
+    Rule {
+        a: w.a as u32,
+        b: w.b as u32,
+        ceiling: NO_CEILING,
+    }
+}
+
+pub fn multiplier_pass(
+    scans: usize,
+    settings: usize,
+    law: u64,
+    n: u64,
+    d: u64,
+    rates: &[u32],
+    distortions: &[u32],
+    scratch: &mut [u8],
+) -> bool
+    requires { ⌜ Fit scans settings law (now rates) (now distortions) (length (now scratch)) ⌝ }
+    requires { ⌜ (n ≤ most-term) × ((1 ≤ d) × (d ≤ most-term)) ⌝ }
+    ensures { λ r. ⌜ MultiplierPass (planning (table scans settings law (now (rates .entry)) (now (distortions .entry)))) scans settings n d (now (scratch .entry)) (now (scratch .exit)) r ⌝ }
+{
+    pass(
+        scans,
+        settings,
+        law,
+        weighing(n, d),
+        rates,
+        distortions,
+        scratch,
+    )
+}
+
+// How a call with a budget starts: the totals of the least-rate plan, which fits, or a refusal with scratch wiped.
+pub enum Started {
+    Plan(Totals),
+    Refused(Refusal),
+}
+
+pub fn start(
+    scans: usize,
+    settings: usize,
+    law: u64,
+    budget: u64,
+    rates: &[u32],
+    distortions: &[u32],
+    scratch: &mut [u8],
+) -> Started
+    requires { ⌜ Fit scans settings law (now rates) (now distortions) (length (now scratch)) ⌝ }
+    ensures { λ r. ⌜ StartedAs (planning (table scans settings law (now (rates .entry)) (now (distortions .entry)))) scans settings budget (now (scratch .entry)) (now (scratch .exit)) r ⌝ }
+{
+    if !thrifty_pass(
+        scans,
+        settings,
+        law,
+        NO_CEILING,
+        rates,
+        distortions,
+        scratch,
+    ) {
+        wipe(scratch, scans * settings);
+        return Started::Refused(Refusal::NoSequence);
+    }
+    let totals = total_up(scans, settings, law, rates, distortions, scratch);
+    if budget < totals.rate.0 {
+        wipe(scratch, scans * settings);
+        return Started::Refused(Refusal::NoneWithin);
+    }
+    Started::Plan(totals)
+}

@@ -1,0 +1,431 @@
+#!/usr/bin/env python3
+"""What the four planning calls must answer, written from document 01 and sharing nothing with the library.
+
+`answer` is a whole call: the number that comes back (0: no refusal), the values beside it, and what both lent buffers hold afterwards. It
+takes its plans from one of two makers. `ByTryingAll` lists every allowed sequence of a small table and reads each definition off the list.
+`ByDynamicProgram` is for tables that are too large for that. Run as a program, this file holds the two against each other, and both against
+the examples of document 01."""
+
+import itertools
+import math
+import random
+import sys
+from fractions import Fraction
+
+CEILING, MULTIPLIER, MINMAX, AVERAGE = 1, 2, 3, 4
+
+MOST_SCANS = 1024
+MOST_SETTINGS = 16
+MOST_TERM = 1073741823
+MOST_CELL = 1048575
+FORBIDDEN = 4294967295
+
+
+# Tables
+
+
+def cells(scans, settings):
+    """How many cells a table has."""
+    return settings + (scans - 1) * settings ** 2
+
+
+def cell(settings, scan, before, setting):
+    """Where a scan's cell stands; scan 0 has no setting before it."""
+    if scan == 0:
+        return setting
+    return settings + (scan - 1) * settings ** 2 + before * settings + setting
+
+
+def keeps(law, before, setting):
+    return law == 0 or abs(before - setting) <= 2
+
+
+def legal_cell(rate, distortion):
+    if rate == FORBIDDEN:
+        return True
+    return rate <= MOST_CELL and distortion <= MOST_CELL
+
+
+def lowest_illegal(rates, distortions):
+    """The lowest illegal cell over both tables, or None."""
+    for k, (rate, distortion) in enumerate(zip(rates, distortions)):
+        if not legal_cell(rate, distortion):
+            return k
+    return None
+
+
+class Table:
+    """A table that passed the refusals 1 to 7."""
+
+    def __init__(self, scans, settings, law, rates, distortions):
+        self.scans, self.settings, self.law = scans, settings, law
+        self.rates, self.distortions = rates, distortions
+
+    def totals(self, plan):
+        """Rate, distortion and peak of a sequence."""
+        before, used = 0, []
+        for scan, setting in enumerate(plan):
+            used.append(cell(self.settings, scan, before, setting))
+            before = setting
+        worn = [self.distortions[k] for k in used]
+        return sum(self.rates[k] for k in used), sum(worn), max(worn)
+
+
+# Refusals
+
+
+def early_refusal(call, scans, settings, law, limits, rates, distortions, plan_length, scratch_length):
+    """The refusals 1 to 7, in their order: the number and what it carries, or None."""
+    if not 1 <= scans <= MOST_SCANS:
+        return 1, 0
+    if not 1 <= settings <= MOST_SETTINGS:
+        return 2, 0
+    if law not in (0, 1):
+        return 3, 0
+    if call == MULTIPLIER:
+        n, d = limits
+        if not (0 <= n <= MOST_TERM and 1 <= d <= MOST_TERM):
+            return 4, 0
+    exact = cells(scans, settings)
+    if len(rates) != exact or len(distortions) != exact:
+        return 5, 0
+    if plan_length < scans or scratch_length < scans * settings:
+        return 6, 0
+    illegal = lowest_illegal(rates, distortions)
+    if illegal is not None:
+        return 7, illegal
+    return None
+
+
+class Refusal(Exception):
+    """8 or 9."""
+
+
+def least_floor(n, d, budget, rate, distortion):
+    """The least whole F, 0 or more, with d F + n B at least d D + n R."""
+    floor = max(0, -((n * budget - d * distortion - n * rate) // d))
+
+    def proved(f):
+        return d * f + n * budget >= d * distortion + n * rate
+
+    assert proved(floor) and (floor == 0 or not proved(floor - 1))
+    return floor
+
+
+# Each maker answers a call with its values and the settings, or raises 8 or 9. Rate, distortion and peak come last but for the floor.
+
+
+class ByTryingAll:
+    """Every allowed sequence of a small table, and the definitions read off the list."""
+
+    def __init__(self, table):
+        self.table = table
+        # in the order that "first" means
+        self.allowed = []
+        for plan in itertools.product(range(table.settings), repeat=table.scans):
+            if self.is_allowed(plan):
+                self.allowed.append((plan,) + table.totals(plan))
+        self.chosen = {}
+        self.slopes = None
+
+    def is_allowed(self, plan):
+        table = self.table
+        for scan, setting in enumerate(plan):
+            before = plan[scan - 1] if scan else 0
+            if scan and not keeps(table.law, before, setting):
+                return False
+            if table.rates[cell(table.settings, scan, before, setting)] == FORBIDDEN:
+                return False
+        return True
+
+    def some_allowed(self):
+        if not self.allowed:
+            raise Refusal(8)
+
+    def ceiling(self, x):
+        self.some_allowed()
+        under = [s for s in self.allowed if s[3] <= x]
+        if not under:
+            raise Refusal(9)
+        plan, rate, distortion, peak = min(under, key=lambda s: (s[1], s[2], s[0]))
+        return [rate, distortion, peak], plan
+
+    def minmax(self, budget):
+        self.some_allowed()
+        # some sequence's peak is the least X, since between two peaks nothing changes
+        for x in sorted({s[3] for s in self.allowed}):
+            if any(s[3] <= x and s[1] <= budget for s in self.allowed):
+                values, plan = self.ceiling(x)
+                return [x] + values, plan
+        raise Refusal(9)
+
+    def choose(self, n, d):
+        if (n, d) not in self.chosen:
+            self.chosen[n, d] = min(self.allowed, key=lambda s: (d * s[2] + n * s[1], s[1], s[0]))
+        return self.chosen[n, d]
+
+    def multiplier(self, n, d):
+        self.some_allowed()
+        plan, rate, distortion, peak = self.choose(n, d)
+        return [rate, distortion, peak], plan
+
+    def every_slope(self):
+        """Zero, and each multiplier at which two sequences tie: between two of these no multiplier plan changes, and at one of them the
+        lower rate of the two that tie is taken, so the least multiplier of any kind is among them. Of the sequences with one rate only the
+        least distortion counts, since no multiplier chooses another."""
+        if self.slopes is None:
+            least = {}
+            for _, rate, distortion, _ in self.allowed:
+                least[rate] = min(distortion, least.get(rate, distortion))
+            found = {(0, 1)}
+            for low, high in itertools.combinations(sorted(least), 2):
+                n, d = least[low] - least[high], high - low
+                if n > 0:
+                    common = math.gcd(n, d)
+                    found.add((n // common, d // common))
+            self.slopes = sorted(found, key=lambda s: Fraction(*s))
+        return self.slopes
+
+    def average(self, budget):
+        self.some_allowed()
+        if all(s[1] > budget for s in self.allowed):
+            raise Refusal(9)
+        for n, d in self.every_slope():
+            plan, rate, distortion, peak = self.choose(n, d)
+            if rate <= budget:
+                return [n, d, rate, distortion, peak, least_floor(n, d, budget, rate, distortion)], plan
+        raise AssertionError("a budget that a sequence meets has a multiplier")
+
+
+class ByDynamicProgram:
+    """Plans from the last scan back: for each setting before, the least key of what follows, and on a tie the lowest setting, so that the
+    walk forward meets the first of the best."""
+
+    # keys are pairs of sums, of which the second stays below this
+    SECOND = 1 << 31
+
+    def __init__(self, table):
+        self.table = table
+        self.chosen = {}
+
+    def best(self, keys):
+        """The plan with the least sum of its cells' keys (None: may not be used), or None."""
+        table = self.table
+        settings, scans = table.settings, table.scans
+        followers = [[q for q in range(settings) if keeps(table.law, p, q)] for p in range(settings)]
+        after, steps = [0] * settings, []
+        for scan in range(scans - 1, 0, -1):
+            start = cell(settings, scan, 0, 0)
+            least, step = [], []
+            for p in range(settings):
+                row = start + p * settings
+                found, taken = None, None
+                for q in followers[p]:
+                    key, rest = keys[row + q], after[q]
+                    if key is not None and rest is not None and (found is None or key + rest < found):
+                        found, taken = key + rest, q
+                least.append(found)
+                step.append(taken)
+            after = least
+            steps.append(step)
+        found, taken = None, None
+        for q in range(settings):
+            key, rest = keys[q], after[q]
+            if key is not None and rest is not None and (found is None or key + rest < found):
+                found, taken = key + rest, q
+        if found is None:
+            return None
+        plan = [taken]
+        for step in reversed(steps):
+            plan.append(step[plan[-1]])
+        return tuple(plan)
+
+    def keyed(self, key, x=MOST_CELL):
+        return [
+            None if r == FORBIDDEN or d > x else key(r, d) for r, d in zip(self.table.rates, self.table.distortions)
+        ]
+
+    def under(self, x):
+        if ("under", x) not in self.chosen:
+            self.chosen["under", x] = self.best(self.keyed(lambda r, d: r * self.SECOND + d, min(x, MOST_CELL)))
+        return self.chosen["under", x]
+
+    def choose(self, n, d):
+        if (n, d) not in self.chosen:
+            self.chosen[n, d] = self.best(self.keyed(lambda r, w: (d * w + n * r) * self.SECOND + r))
+        return self.chosen[n, d]
+
+    def some_allowed(self):
+        """The plan of least rate, of all allowed."""
+        plan = self.under(MOST_CELL)
+        if plan is None:
+            raise Refusal(8)
+        return plan
+
+    def ceiling(self, x):
+        self.some_allowed()
+        plan = self.under(x)
+        if plan is None:
+            raise Refusal(9)
+        return list(self.table.totals(plan)), plan
+
+    def minmax(self, budget):
+        if self.table.totals(self.some_allowed())[0] > budget:
+            raise Refusal(9)
+        # the least X is a distortion cell, and a higher ceiling never needs more rate
+        shown = sorted({d for r, d in zip(self.table.rates, self.table.distortions) if r != FORBIDDEN})
+        low, high = 0, len(shown) - 1
+        while low < high:
+            middle = (low + high) // 2
+            plan = self.under(shown[middle])
+            if plan is not None and self.table.totals(plan)[0] <= budget:
+                high = middle
+            else:
+                low = middle + 1
+        plan = self.under(shown[low])
+        return [shown[low]] + list(self.table.totals(plan)), plan
+
+    def multiplier(self, n, d):
+        self.some_allowed()
+        plan = self.choose(n, d)
+        return list(self.table.totals(plan)), plan
+
+    def average(self, budget):
+        totals = self.table.totals
+        low = totals(self.some_allowed())
+        if low[0] > budget:
+            raise Refusal(9)
+        n, d = 0, 1
+        plan = self.choose(n, d)
+        high = totals(plan)
+        # high's rate is over the budget and low's is not: where a plan beats both at the multiplier that ties them, it takes the place of
+        # one; where none does, every smaller multiplier prefers high to each sequence within the budget
+        while high[0] > budget:
+            n, d = low[1] - high[1], high[0] - low[0]
+            common = math.gcd(n, d)
+            n, d = n // common, d // common
+            plan = self.choose(n, d)
+            here = totals(plan)
+            if d * here[1] + n * here[0] == d * low[1] + n * low[0]:
+                break
+            if here[0] <= budget:
+                low = here
+            else:
+                high = here
+        rate, distortion, peak = totals(plan)
+        return [n, d, rate, distortion, peak, least_floor(n, d, budget, rate, distortion)], plan
+
+
+# Whole calls
+
+
+def planned(maker, call, limits):
+    if call == CEILING:
+        return maker.ceiling(limits[0])
+    if call == MULTIPLIER:
+        return maker.multiplier(*limits)
+    if call == MINMAX:
+        return maker.minmax(limits[0])
+    return maker.average(limits[0])
+
+
+def answer(make, call, scans, settings, law, limits, rates, distortions, plan, scratch):
+    """The number, the values and both buffers as the caller gets them back. `make` gives the maker for a table; limits are X, n and d, or
+    B."""
+    early = early_refusal(call, scans, settings, law, limits, rates, distortions, len(plan), len(scratch))
+    if early:
+        return early[0], [early[1]], plan, scratch
+    used = scans * settings
+    cleared = bytes(used) + scratch[used:]
+    try:
+        values, settled = planned(make(Table(scans, settings, law, rates, distortions)), call, limits)
+    except Refusal as late:
+        return late.args[0], [0], plan, cleared
+    return 0, values, bytes(settled) + plan[scans:], cleared
+
+
+# The check of this file by itself
+
+
+def worked():
+    """Document 01, "Bench tables"."""
+    t = (2, 2, 0, [10, 4, 8, 3, 9, 5], [2, 7, 3, 6, 4, 10])
+    u = (1, 3, 0, [9, 6, 2], [0, 8, 10])
+    blocked = (2, 2, 0, [10, 4] + [FORBIDDEN] * 4, [2, 7, 3, 6, 4, 10])
+    single = (1, 1, 0, [0], [0])
+    sequences = {(0, 0): (18, 5, 3), (0, 1): (13, 8, 6), (1, 0): (13, 11, 7), (1, 1): (9, 17, 10)}
+    for plan, totals in sequences.items():
+        assert Table(*t).totals(plan) == totals
+    for maker in (ByTryingAll, ByDynamicProgram):
+
+        def ask(table, call, *limits):
+            scans, settings, law, rates, distortions = table
+            got = answer(maker, call, scans, settings, law, limits, rates, distortions, b"\7" * 3, b"\7" * 9)
+            return got[0], got[1], tuple(got[2][:scans])
+
+        def average(n, d, plan, floor):
+            return 0, [n, d] + list(sequences[plan]) + [floor], plan
+
+        def simple(plan, *first):
+            return 0, list(first) + list(sequences[plan]), plan
+
+        assert ask(t, AVERAGE, 18) == average(0, 1, (0, 0), 5)
+        assert ask(t, AVERAGE, 17) == average(3, 5, (0, 1), 6)
+        assert ask(t, AVERAGE, 13) == average(3, 5, (0, 1), 8)
+        assert ask(t, AVERAGE, 12) == average(9, 4, (1, 1), 11)
+        assert ask(t, AVERAGE, 9) == average(9, 4, (1, 1), 17)
+        assert ask(t, AVERAGE, 8)[0] == 9
+        assert ask(u, AVERAGE, 7) == (0, [10, 7, 2, 10, 10, 3], (2,))
+        assert ask(t, CEILING, 7) == simple((0, 1))
+        assert ask(t, CEILING, 5) == simple((0, 0))
+        assert ask(t, CEILING, 2)[0] == 9
+        assert ask(t, MINMAX, 17) == simple((0, 1), 6)
+        assert ask(t, MINMAX, 12) == simple((1, 1), 10)
+        assert ask(t, MULTIPLIER, 9, 4) == simple((1, 1))
+        assert ask(t, MULTIPLIER, 3, 5) == simple((0, 1))
+        for budget in (0, 8, 13, 2 ** 64 - 1):
+            assert ask(blocked, AVERAGE, budget)[0] == 8 and ask(blocked, MINMAX, budget)[0] == 8
+        assert ask((1, 1, 0, [1048575], [0]), AVERAGE, 2 ** 64 - 1)[0] == 0
+        assert ask((1, 1, 0, [1048576], [0]), AVERAGE, 2 ** 64 - 1)[:2] == (7, [0])
+        assert ask(single, AVERAGE, 0) == (0, [0, 1, 0, 0, 0, 0], (0,))
+    assert keeps(1, 0, 2) and keeps(1, 3, 1) and not keeps(1, 0, 3)
+    assert cells(1024, 16) == 261904
+
+
+def outcome(maker, call, *limits):
+    try:
+        return planned(maker, call, limits)
+    except Refusal as late:
+        return late.args[0]
+
+
+def agree(table, budgets, ceilings, multipliers):
+    """The two makers answer alike."""
+    tried, programmed = ByTryingAll(table), ByDynamicProgram(table)
+    asked = [(call, b) for b in budgets for call in (MINMAX, AVERAGE)]
+    asked += [(CEILING, x) for x in ceilings] + [(MULTIPLIER,) + m for m in multipliers]
+    for call, *limits in asked:
+        assert outcome(tried, call, *limits) == outcome(programmed, call, *limits), (vars(table), call, limits)
+    return len(asked)
+
+
+def main():
+    worked()
+    draw = random.Random(20)
+    asked = 0
+    for _ in range(2000):
+        settings = draw.randint(1, 4)
+        scans = draw.randint(1, {1: 9, 2: 6, 3: 4, 4: 3}[settings])
+        span = draw.choice([1, 2, 3, 10, 200, MOST_CELL])
+        size = cells(scans, settings)
+        rates = [FORBIDDEN if draw.random() < 0.15 else draw.randint(0, span) for _ in range(size)]
+        distortions = [draw.randint(0, draw.choice([span, 3])) for _ in range(size)]
+        table = Table(scans, settings, draw.randint(0, 1), rates, distortions)
+        budgets = [0, 2 ** 64 - 1] + [draw.randint(0, (span + 1) * scans) for _ in range(3)]
+        multipliers = [(0, 1), (1, 1), (MOST_TERM, 1), (1, MOST_TERM), (draw.randint(0, 9), draw.randint(1, 9))]
+        asked += agree(table, budgets, [0, draw.choice(distortions), draw.randint(0, span), FORBIDDEN], multipliers)
+    print("planner.py: the examples hold, and both makers answer %d calls alike" % asked)
+
+
+if __name__ == "__main__":
+    sys.exit(main())
