@@ -3,3 +3,4 @@ pub mod SeekLaws
 pub mod PromiseLaws
 pub mod MinmaxLaws
 pub mod AverageLaws
+pub mod Settled
