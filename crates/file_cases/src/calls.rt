@@ -1,0 +1,104 @@
+// The two calls, each with a buffer filled anew, and with what it answers and what the buffer holds then written out.
+use crate::change::fields;
+use crate::change::runs;
+use crate::feed::byte;
+use crate::feed::place;
+use crate::show::end_line;
+use crate::show::put_buffer;
+use crate::show::put_read;
+use crate::show::put_written;
+use planfile::fields::Fields;
+use planfile::read::read_plan;
+use planfile::write::write_plan;
+use weights::cost::Dist;
+use weights::cost::Rate;
+ghost use mathlib.Core.Path.{_≡_};
+ghost use lib.ListN.{length};
+
+fn pattern(i: usize) -> u8 {
+    ((i % 251 * 7 + 13) % 251 + 1) as u8
+}
+
+// A buffer before a call: byte i is 1 and (7i + 13) modulo 251, never zero and mostly no setting, so that what is written or left shows.
+fn fill(buffer: &mut [u8]) {
+    let mut i = 0;
+    while i < buffer.len() {
+        buffer[i] = pattern(i);
+        i += 1;
+    }
+}
+
+fn asked(file: &[u8], lent: &mut [u8]) {
+    fill(lent);
+    put_read(read_plan(file, lent));
+    put_buffer(lent);
+    end_line();
+}
+
+fn read(file: &mut [u8], lent: &mut [u8]) {
+    runs(file);
+    let f = place(file.len());
+    let n = place(lent.len());
+    asked(&file[..f], &mut lent[..n]);
+}
+
+fn told(f: &[u64]) -> Fields
+    requires { ⌜ length (now f) ≡ 11 ⌝ }
+{
+    Fields {
+        scans: f[0],
+        settings: f[1],
+        law: f[2],
+        kind: f[3],
+        budget: f[4],
+        n: f[5],
+        d: f[6],
+        rate: Rate(f[7]),
+        distortion: Dist(f[8]),
+        peak: f[9],
+        floor: Dist(f[10]),
+    }
+}
+
+fn wanted(told: Fields, settings: &[u8], lent: &mut [u8]) {
+    fill(lent);
+    put_written(write_plan(told, settings, lent));
+    put_buffer(lent);
+    end_line();
+}
+
+fn write(given: &mut [u8], kept: &mut [u64], lent: &mut [u8])
+    requires { ⌜ length (now kept) ≡ 11 ⌝ }
+{
+    fields(kept);
+    runs(given);
+    let g = place(given.len());
+    let n = place(lent.len());
+    wanted(told(kept), &given[..g], &mut lent[..n]);
+}
+
+// One call; false where there is none.
+fn call(file: &mut [u8], given: &mut [u8], kept: &mut [u64], lent: &mut [u8]) -> bool
+    requires { ⌜ length (now kept) ≡ 11 ⌝ }
+{
+    let which = byte();
+    if which == 1 {
+        read(file, lent);
+        return true;
+    }
+    if which == 2 {
+        write(given, kept, lent);
+        return true;
+    }
+    false
+}
+
+// A proved loop has to end, and nothing says that the input does. So it counts down from a number that no run uses up.
+pub fn every_call(file: &mut [u8], given: &mut [u8], kept: &mut [u64], lent: &mut [u8])
+    requires { ⌜ length (now kept) ≡ 11 ⌝ }
+{
+    let mut turns = u64::MAX;
+    while turns > 0 && call(file, given, kept, lent) {
+        turns -= 1;
+    }
+}

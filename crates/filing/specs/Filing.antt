@@ -1,0 +1,50 @@
+-- The fields of a plan's file, and what is read from it. Assumes nothing.
+use mathlib.Core.Path.{_≡_}
+use mathlib.Core.Option.{none}
+use mathlib.Core.List.{List}
+use Prim.Native.Nat.{ℕ, _≤_}
+use lib.ListN.{take}
+use Rattle.planner.specs.declared.answer.AveragePlan.{AveragePlan}
+use Rattle.planner.specs.declared.answer.MinmaxPlan.{MinmaxPlan}
+use Rattle.planfile.specs.declared.fields.Fields.{Fields}
+use Rattle.planfile.specs.File.{file-of, entry-at}
+use Rattle.planfile.specs.Reading.{fields-of, read-refusal, entries}
+
+-- "kind, 0 average": N, Q, law and B of the call, and what the plan holds
+abbrev pub average-fields : (N Q law B : ℕ) → AveragePlan → Fields
+average-fields N Q law B m = record {
+  scans = N;
+  settings = Q;
+  law = law;
+  kind = 0;
+  budget = B;
+  n = m .n;
+  d = m .d;
+  rate = m .totals .rate;
+  distortion = m .totals .distortion;
+  peak = m .totals .peak;
+  floor = m .floor;
+}
+
+-- "1 minmax"; "Kind 1: n, d and floor are 0."
+abbrev pub minmax-fields : (N Q law B : ℕ) → MinmaxPlan → Fields
+minmax-fields N Q law B m = record {
+  scans = N;
+  settings = Q;
+  law = law;
+  kind = 1;
+  budget = B;
+  n = 0;
+  d = 0;
+  rate = m .totals .rate;
+  distortion = m .totals .distortion;
+  peak = m .totals .peak;
+  floor = record { 0 = 0 };
+}
+
+-- what is read from the file of these fields and settings: the fields, the first N settings, and no refusal where the settings buffer has
+-- room for N
+pub record ReadsBack (f : Fields) (settings : List ℕ) : Type 0 where
+  pub fields : fields-of (file-of f settings) ≡ f
+  pub settings-read : entries (entry-at (file-of f settings)) 0 (f .scans) ≡ take (f .scans) settings
+  pub unrefused : (room : ℕ) → f .scans ≤ room → read-refusal (file-of f settings) room ≡ none

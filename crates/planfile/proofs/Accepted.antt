@@ -1,0 +1,163 @@
+-- Theorem b: every accepted file is the one that its plan is written as, and the writer accepts that plan. Assumes nothing.
+use mathlib.Core.Path.{_≡_, refl, sym, ap, _∙_}
+use mathlib.Core.Bool.{Bool, true, false, not, _||_, _&&_}
+use mathlib.Core.Option.{none}
+use mathlib.Core.List.{List}
+use Prim.Native.Nat.{ℕ, suc, _+_, _*_, _-_, _/_, _≤_, _<_}
+use native.Mathlib.Omega.{arith}
+use lib.Dec.{eqb, ltb}
+use lib.ListN.{length, getD}
+use lib.Seq.{take-all}
+use borrow.Author.Tests.{eqb-true, not-false, ltb-true, ltb-false, le-ltb}
+use Rattle.tables.specs.declared.refusal.Refusal.the-variants as refusal
+use Rattle.tables.specs.Planning.{scans-out}
+use Rattle.planfile.specs.declared.fields.Fields.{Fields}
+use Rattle.planfile.specs.Bytes.{number-at}
+use Rattle.planfile.specs.File.{either, entry-of, header, data-blocks, file-length, file-of, entry-at}
+use Rattle.planfile.specs.Rules.{entry-broken, law-broken, found, when}
+use Rattle.planfile.specs.Reading.{length-out, block-broken, bad-block, fields-of, marks-of, broken-field, bad-entry}
+use Rattle.planfile.specs.Reading.{read-refusal, entries}
+use Rattle.planfile.specs.Writing.{no-marks, write-short, write-refusal}
+use Rattle.planfile.proofs.PartLaws.{part-join}
+use Rattle.planfile.proofs.NumberLaws.{Bytes}
+use Rattle.planfile.proofs.HalfLaws.{length-entries, getD-entries}
+use Rattle.planfile.proofs.CheckLaws.{neither, none-else, else-none, none-when, none-found, none-so, none-first}
+use Rattle.planfile.proofs.FieldLaws.{Kept, kept, kept-passes, limited, same-broken}
+use Rattle.planfile.proofs.BlockLaws.{within, right-length, sealed-part, header-part, blocks-part}
+
+-- what an accepted file has passed
+pub record Passed (file : List ℕ) (room : ℕ) : Type 0 where
+  pub blocks : bad-block file ≡ none
+  pub rules : Kept (marks-of file) (fields-of file)
+  pub enough : fields-of file .scans ≤ room
+  pub entries : bad-entry file ≡ none
+
+-- a file that is not refused has passed them
+pub passed : (file : List ℕ) (room : ℕ) → read-refusal file room ≡ none → Passed file room
+unfolding read-refusal broken-field
+passed file room e =
+    let a = none-else (when (length-out (length file)) refusal.FileLength) _ e in
+    let b = none-else (found refusal.Block (bad-block file)) _ (a .1) in
+    let c = none-else (broken-field file) _ (b .1) in
+    let d = none-else (when (ltb room (fields-of file .scans)) refusal.Buffer) _ (c .1) in
+    record {
+      blocks = none-found refusal.Block (bad-block file) (b .0);
+      rules = kept (marks-of file) (fields-of file) (c .0);
+      enough = ltb-false room (fields-of file .scans) (none-when (ltb room (fields-of file .scans)) refusal.Buffer (d .0));
+      entries = none-found refusal.Entry (bad-entry file) (d .1);
+    }
+
+-- entries that keep their rules are those of a plan of the first N of them: from N on they are zero
+shown : (N Q law : ℕ) (e : ℕ → ℕ) (j : ℕ) → entry-broken N Q law e j ≡ false → entry-of N (entries e 0 N) j ≡ e j
+unfolding entry-broken
+shown N Q law e j kept = by (ltb j N) (ltb-true j N) kept
+  where
+    by : (b : Bool) → (b ≡ true → j < N)
+        → either b (not (ltb (e j) Q) || (ltb 0 j && law-broken law (e (j - 1)) (e j))) (not (eqb (e j) 0)) ≡ false
+        → either b (getD (entries e 0 N) j 0) 0 ≡ e j
+    by true f k = getD-entries e 0 N j (f refl) ∙ ap e (omega arith)
+    by false f k = sym (eqb-true (e j) 0 (not-false _ k))
+
+module _ (file : List ℕ) (room : ℕ) (h : Passed file room) where
+  -- the fields of the file
+  abbrev f : Fields
+  f = fields-of file
+
+  -- the settings that the reader hands out
+  abbrev settings : List ℕ
+  settings = entries (entry-at file) 0 (f .scans)
+
+  -- (f .scans) is in its range, and no other length is marked
+  scans-rule : (scans-out (f .scans) ≡ false) × (marks-of file .length ≡ false)
+  scans-rule = neither (scans-out (f .scans)) (marks-of file .length) (h .rules .scans)
+
+  -- the file has the length that goes with N
+  long : length file ≡ file-length (f .scans)
+  unfolding marks-of fields-of
+  long = right-length (length file) (number-at 8 2 file) (scans-rule .1)
+
+  -- every block of the file has its number and check
+  sound-block : (k : ℕ) → k < suc (data-blocks (f .scans)) → block-broken file k ≡ false
+  unfolding bad-block
+  sound-block k g = none-so (length file / 512) (block-broken file) 0 (h .blocks) k (omega arith) (omega (arith, long))
+
+  -- every entry of its data blocks keeps its rule
+  sound-entry : (j : ℕ) → j < 1008 * data-blocks (f .scans)
+      → entry-broken (f .scans) (f .settings) (f .law) (entry-at file) j ≡ false
+  unfolding bad-entry
+  sound-entry j g = none-so (1008 * (length file / 512 - 1)) _ 0 (h .entries) j (omega arith) (omega (arith, long))
+
+  -- the settings that the reader hands out are the entries of the data blocks
+  same-entry : (j : ℕ) → j < 1008 * data-blocks (f .scans)
+      → entry-of (f .scans) settings j ≡ entry-at file j
+  same-entry j g = shown (f .scans) (f .settings) (f .law) (entry-at file) j (sound-entry j g)
+
+  -- the file is its block 0 and its data blocks
+  written-back : Bytes file → file-of f settings ≡ file
+  written-back bytes =
+      let n = data-blocks (f .scans) in
+      let whole : 512 + 512 * n ≡ length file = omega (arith, long) in
+      let broken : block-broken file 0 ≡ false = sound-block 0 (omega arith) in
+      part-join file 0 512 (512 * n)
+      (sealed-part file bytes 0 (header f) (omega arith) broken (header-part file bytes (omega arith) broken (h .rules)))
+      (blocks-part file bytes (entry-of (f .scans) settings) n 0 (omega arith) (λ k g. sound-block k (omega arith))
+      (λ j g. same-entry j (omega arith)))
+      ∙ take-all (512 + 512 * n) file (omega arith)
+
+  -- the header rules hold of what is written, too
+  written-rules : Kept no-marks f
+  written-rules =
+      let k = h .rules in
+      record {
+        letters = refl;
+        scans = rw (scans-rule .0);
+        settings = k .settings;
+        law = k .law;
+        kind = k .kind;
+        run-13 = refl;
+        n = k .n;
+        d = k .d;
+        rate = k .rate;
+        distortion = k .distortion;
+        peak = k .peak;
+        floor = k .floor;
+        run-48 = refl;
+      }
+
+  -- the settings that the reader hands out keep their rules
+  written-entries : (j : ℕ) → j < f .scans
+      → entry-broken (f .scans) (f .settings) (f .law)
+      (λ j. getD settings j 0) j ≡ false
+  written-entries j g =
+      let most : f .scans ≤ 1024 = limited (marks-of file) f (h .rules) .scans in
+      let get : (i : ℕ) → i < f .scans → getD settings i 0 ≡ entry-at file i =
+      λ i l. getD-entries (entry-at file) 0 (f .scans) i l ∙ ap (entry-at file) (omega arith) in
+      same-broken (f .scans) (f .settings) (f .law) (λ j. getD settings j 0) (entry-at file) j
+      (get j g) (get (j - 1) (omega arith))
+      ∙ sound-entry j (omega (arith, within (f .scans) most))
+
+  -- neither the settings nor a buffer of the file's length are short
+  not-short : (room₂ : ℕ) → file-length (f .scans) ≤ room₂
+      → write-short (f .scans) (length settings) room₂ ≡ false
+  not-short room₂ g =
+      let N = f .scans in
+      rw (length-entries (entry-at file) 0 N, le-ltb N N (omega arith), le-ltb room₂ (file-length N) g) refl
+
+  -- so the writer refuses nothing
+  written-accepted : (room₂ : ℕ) → file-length (f .scans) ≤ room₂
+      → write-refusal f settings room₂ ≡ none
+  unfolding write-refusal
+  written-accepted room₂ g =
+      else-none _ _ (kept-passes no-marks f written-rules)
+      (else-none _ _ (ap (λ (b : Bool). when b refusal.Buffer) (not-short room₂ g))
+      (ap (found refusal.Entry) (none-first (f .scans) _ 0 (λ j l k. written-entries j (omega arith)))))
+
+-- Theorem b: every accepted file is the one that its plan is written as.
+pub accepted-file : (file : List ℕ) (room : ℕ) → ((i : ℕ) → getD file i 0 < 256) → read-refusal file room ≡ none
+    → file-of (fields-of file) (entries (entry-at file) 0 (fields-of file .scans)) ≡ file
+accepted-file file room bytes e = written-back file room (passed file room e) bytes
+
+-- And the writer accepts that plan, where the buffer has room for the file.
+pub accepted-plan : (file : List ℕ) (room room₂ : ℕ) → read-refusal file room ≡ none → file-length (fields-of file .scans) ≤ room₂
+    → write-refusal (fields-of file) (entries (entry-at file) 0 (fields-of file .scans)) room₂ ≡ none
+accepted-plan file room room₂ e = written-accepted file room (passed file room e) room₂

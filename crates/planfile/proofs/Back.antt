@@ -1,0 +1,184 @@
+-- Theorem a: what is written reads back. Assumes nothing.
+use mathlib.Core.Path.{_≡_, refl, sym, ap, _∙_}
+use mathlib.Core.Bool.{Bool, true, false}
+use mathlib.Core.Option.{none}
+use mathlib.Core.List.{List, []}
+use Prim.Native.Nat.{ℕ, zero, suc, _+_, _*_, _-_, _/_, _^_, _≤_, _<_}
+use native.Mathlib.Decide.{decLt}
+use native.Mathlib.Omega.{arith}
+use lib.Dec.{ltb}
+use lib.ListN.{length, getD, take, length-append}
+use borrow.Author.Tests.{lt-ltb, le-ltb}
+use Rattle.tables.specs.declared.refusal.Refusal.the-variants as refusal
+use Rattle.planfile.specs.declared.fields.Fields.{Fields}
+use Rattle.planfile.specs.Bytes.{le, number-at}
+use Rattle.planfile.specs.File.{either, header, sealed, entry-of, data-from, data-blocks, file-length, file-of, entry-at}
+use Rattle.planfile.specs.Rules.{entry-broken, when, or-else}
+use Rattle.planfile.specs.Reading.{length-out, block-broken, bad-block, fields-of, other-length, marks-of, broken-field, bad-entry}
+use Rattle.planfile.specs.Reading.{read-refusal, entries}
+use Rattle.planfile.specs.Writing.{no-marks, write-refusal}
+use Rattle.planfile.proofs.NumberLaws.{value-le}
+use Rattle.planfile.proofs.HalfLaws.{entries-part}
+use Rattle.planfile.proofs.CheckLaws.{none-first}
+use Rattle.planfile.proofs.FieldLaws.{kept-passes, Limited, limited, Writable, writable, same-broken, entry-small}
+use Rattle.planfile.proofs.BlockLaws.{few-blocks, within, length-in, same-length, length-sealed, block-sound}
+use Rattle.planfile.proofs.BlockLaws.{length-header, small-header, header-number, length-data, data-sound, entry-there}
+
+-- ---- the length
+
+-- block 0 is one block
+block-0 : (f : Fields) → length (sealed (header f)) ≡ 512
+block-0 f = length-sealed (header f) (length-header f)
+
+-- what is written is as long as its count of settings asks
+pub length-back : (f : Fields) (settings : List ℕ) → length (file-of f settings) ≡ file-length (f .scans)
+length-back f settings =
+    let e : ℕ → ℕ = entry-of (f .scans) settings in
+    let n : ℕ = data-blocks (f .scans) in
+    omega (arith, length-append (sealed (header f)) (data-from e 0 n), block-0 f, length-data n e 0)
+
+-- so it is one of the two
+pub length-sound : (f : Fields) (settings : List ℕ) → length-out (length (file-of f settings)) ≡ false
+length-sound f settings = rw (length-back f settings) (length-in (f .scans))
+
+-- there are as many blocks as were written
+blocks-back : (f : Fields) (settings : List ℕ) → length (file-of f settings) / 512 ≡ suc (data-blocks (f .scans))
+blocks-back f settings = omega (arith, length-back f settings)
+
+-- ---- with what the writer has checked
+
+module _ (f : Fields) (settings : List ℕ) (k : Writable f settings) where
+  -- the file that is written
+  abbrev file : List ℕ
+  file = file-of f settings
+
+  -- the limits of its fields
+  abbrev bounds : Limited f
+  bounds = limited no-marks f (k .rules)
+
+  -- N reads back
+  scans-back : number-at 8 2 file ≡ f .scans
+  unfolding number-at header le
+  scans-back = value-le 2 (f .scans) (omega (arith, bounds .scans))
+
+  -- all fields read back
+  kept-fields : f .budget < 2 ^ 64 → fields-of file ≡ f
+  unfolding fields-of number-at header le
+  kept-fields h = λ i. record {
+    scans = scans-back i;
+    settings = value-le 1 (f .settings) (omega (arith, bounds .settings)) i;
+    law = value-le 1 (f .law) (omega (arith, bounds .law)) i;
+    kind = value-le 1 (f .kind) (omega (arith, bounds .kind)) i;
+    budget = value-le 8 (f .budget) (omega (arith, h)) i;
+    n = value-le 4 (f .n) (omega (arith, bounds .n)) i;
+    d = value-le 4 (f .d) (omega (arith, bounds .d)) i;
+    rate = record { 0 = value-le 4 (f .rate .0) (omega (arith, bounds .rate)) i };
+    distortion = record { 0 = value-le 4 (f .distortion .0) (omega (arith, bounds .distortion)) i };
+    peak = value-le 4 (f .peak) (omega (arith, bounds .peak)) i;
+    floor = record { 0 = value-le 4 (f .floor .0) (omega (arith, bounds .floor)) i };
+  }
+
+  -- the length goes with the N that is read
+  length-kept : other-length (length file) (number-at 8 2 file) ≡ false
+  length-kept = rw (length-back f settings, scans-back) (same-length (f .scans))
+
+  -- the letters, the zeros and the length are as they should be
+  kept-marks : marks-of file ≡ no-marks
+  unfolding marks-of header le
+  kept-marks = λ i. record { letters = false; length = length-kept i; run_13 = false; run_48 = false }
+
+  -- every block is sound
+  kept-blocks : bad-block file ≡ none
+  unfolding bad-block
+  kept-blocks = rw (blocks-back f settings) (none-first (suc n) (block-broken file) 0 (λ i l g. at i (omega arith)))
+    where
+      e : ℕ → ℕ
+      e = entry-of (f .scans) settings
+
+      n : ℕ
+      n = data-blocks (f .scans)
+
+      at : (i : ℕ) → i < suc n → block-broken file i ≡ false
+      at zero g = block-sound [] (header f) (data-from e 0 n) 0 refl (length-header f) (small-header f) (header-number f)
+      at (suc i) g =
+          let p : suc 0 + i ≡ suc i = omega arith in
+          rw (sym p)
+          (data-sound e (entry-small f settings k) n 0 (sealed (header f)) (block-0 f) (omega (arith, few-blocks (f .scans))) i
+          (omega arith))
+
+  -- no field breaks its rule
+  kept-rules : f .budget < 2 ^ 64 → broken-field file ≡ none
+  unfolding broken-field
+  kept-rules h = rw (kept-marks, kept-fields h) (kept-passes no-marks f (k .rules))
+
+  -- each entry of the data blocks is the one that was written there
+  kept-entry : (j : ℕ) → j < 1008 * data-blocks (f .scans) → entry-at file j ≡ entry-of (f .scans) settings j
+  kept-entry j h =
+      entry-there (entry-of (f .scans) settings) (entry-small f settings k) (sealed (header f)) (data-blocks (f .scans)) j (block-0 f) h
+
+  -- an entry before N is the setting
+  kept-setting : (j : ℕ) → j < f .scans → entry-at file j ≡ getD settings j 0
+  kept-setting j h =
+      kept-entry j (omega (arith, within (f .scans) (bounds .scans)))
+      ∙ ap (λ (t : Bool). either t (getD settings j 0) 0) (lt-ltb j (f .scans) h)
+
+  -- an entry from N on is zero
+  kept-filler : (j : ℕ) → f .scans ≤ j → j < 1008 * data-blocks (f .scans) → entry-at file j ≡ 0
+  kept-filler j h g = kept-entry j g ∙ ap (λ (t : Bool). either t (getD settings j 0) 0) (le-ltb j (f .scans) h)
+
+  -- no entry breaks its rule
+  entry-kept : (j : ℕ) → j < 1008 * data-blocks (f .scans) → entry-broken (f .scans) (f .settings) (f .law) (entry-at file) j ≡ false
+  unfolding entry-broken
+  entry-kept j g = at (decLt j (f .scans))
+    where
+      at : Dec (j < f .scans) → entry-broken (f .scans) (f .settings) (f .law) (entry-at file) j ≡ false
+      at (yes h) =
+          same-broken (f .scans) (f .settings) (f .law) (entry-at file) (λ j. getD settings j 0) j (kept-setting j h)
+          (kept-setting (j - 1) (omega arith))
+          ∙ k .entries j h
+      at (no h) = rw (le-ltb j (f .scans) (omega arith), kept-filler j (omega arith) g) refl
+
+  -- and so none is found
+  kept-entries : f .budget < 2 ^ 64 → bad-entry file ≡ none
+  unfolding bad-entry
+  kept-entries h =
+      let p : length file / 512 - 1 ≡ data-blocks (f .scans) = omega (arith, blocks-back f settings) in
+      rw (kept-fields h, p)
+      (none-first (1008 * data-blocks (f .scans)) (entry-broken (f .scans) (f .settings) (f .law) (entry-at file)) 0
+      (λ i l g. entry-kept i (omega arith)))
+
+-- ---- theorem a
+
+module _ (f : Fields) (settings : List ℕ) (room : ℕ) (written : write-refusal f settings room ≡ none) where
+  -- the settings read back
+  pub settings-back : entries (entry-at (file-of f settings)) 0 (f .scans) ≡ take (f .scans) settings
+  settings-back =
+      let k : Writable f settings = writable f settings room written in
+      entries-part (entry-at (file-of f settings)) settings (f .scans) 0 0 (omega (arith, k .enough))
+      (λ i h. let z : 0 + i ≡ i = omega arith in rw z (kept-setting f settings k i h))
+
+  -- every block's number and check is right
+  pub blocks-sound : bad-block (file-of f settings) ≡ none
+  blocks-sound = kept-blocks f settings (writable f settings room written)
+
+  module _ (budget : f .budget < 2 ^ 64) where
+    -- the fields read back
+    pub fields-back : fields-of (file-of f settings) ≡ f
+    fields-back = kept-fields f settings (writable f settings room written) budget
+
+    -- no header field breaks its rule
+    pub fields-sound : broken-field (file-of f settings) ≡ none
+    fields-sound = kept-rules f settings (writable f settings room written) budget
+
+    -- no entry or filler breaks its rule
+    pub entries-sound : bad-entry (file-of f settings) ≡ none
+    entries-sound = kept-entries f settings (writable f settings room written) budget
+
+    -- the reader refuses nothing but a buffer that is too short
+    pub read-back : (room′ : ℕ) → read-refusal (file-of f settings) room′ ≡ when (ltb room′ (f .scans)) refusal.Buffer
+    unfolding read-refusal
+    read-back room′ = rw (length-sound f settings, blocks-sound, fields-sound, fields-back, entries-sound) (last (ltb room′ (f .scans)))
+      where
+        last : (t : Bool) → or-else (when t refusal.Buffer) none ≡ when t refusal.Buffer
+        last true = refl
+        last false = refl

@@ -1,0 +1,115 @@
+-- The stages of a call, and its answer. Assumes nothing.
+use mathlib.Core.Path.{_≡_, refl, sym, ap, _∙_}
+use mathlib.Core.Bool.{Bool, true, false, not, _||_}
+use mathlib.Core.Option.{Option, none, some}
+use mathlib.Core.List.{List, [], _∷_, _++_}
+use Prim.Native.Nat.{ℕ, zero, suc, _+_, _*_, _-_, _/_, _≤_, _<_}
+use native.Mathlib.Nat.{zero-add}
+use native.Mathlib.Omega.{arith}
+use lib.Dec.{ltb, eqb}
+use lib.ListN.{length, take, drop}
+use lib.Seq.{sets, sets-eq}
+use borrow.Author.Tests.{eqb-true, ltb-false}
+use Rattle.tables.specs.declared.refusal.Refusal.{Refusal}
+use Rattle.tables.specs.declared.refusal.Refusal.the-variants as refusal
+use Rattle.tables.specs.Refusals.{refused, answered}
+use Rattle.tables.specs.Planning.{scans-out}
+use Rattle.planfile.specs.declared.fields.Fields.{Fields}
+use Rattle.planfile.specs.declared.stage.Stage.{Stage}
+use Rattle.planfile.specs.declared.stage.Stage.the-variants.{Passed, Stopped}
+use Rattle.planfile.specs.Bytes.{number-at}
+use Rattle.planfile.specs.File.{entry-at, file-length}
+use Rattle.planfile.specs.Rules.{or-else, when, found, first-from, entry-broken}
+use Rattle.planfile.specs.Stages.{ended, why-of}
+use Rattle.planfile.specs.Reading.{length-out, bad-block, broken-field, bad-entry, fields-of, marks-of, other-length, values-of, entries, read-refusal, read-of, settings-after}
+use Rattle.planfile.proofs.CheckLaws.{neither, none-when, never}
+use Rattle.planfile.proofs.FieldLaws.{Kept, kept, limited}
+use Rattle.planfile.proofs.BlockLaws.{right-length, within, few-blocks}
+use Rattle.planfile.proofs.HalfLaws.{length-entries}
+
+-- a stage that stopped is the refusal of all that come from it on
+pub at-stop : {z : Stage} {w : Refusal} {o : Option Refusal} (rest : Option Refusal) → ended z ≡ o → z ≡ Stopped w → or-else o rest ≡ some (why-of z)
+at-stop {z} {w} {o} rest e q = ap (λ x. or-else x rest) (sym e ∙ ap ended q) ∙ sym (ap (λ y. some (why-of y)) q)
+
+-- a stage that passed leaves it to those after it
+pub at-pass : {z : Stage} {o : Option Refusal} (rest : Option Refusal) → ended z ≡ o → z ≡ Passed → or-else o rest ≡ rest
+at-pass {z} {o} rest e q = ap (λ x. or-else x rest) (sym e ∙ ap ended q)
+
+-- the last stage
+pub last-stop : {z : Stage} {w : Refusal} {o : Option Refusal} → ended z ≡ o → z ≡ Stopped w → o ≡ some (why-of z)
+last-stop {z} {w} {o} e q = sym e ∙ ap ended q ∙ sym (ap (λ y. some (why-of y)) q)
+
+pub last-pass : {z : Stage} {o : Option Refusal} → ended z ≡ o → z ≡ Passed → o ≡ none
+last-pass {z} {o} e q = sym e ∙ ap ended q
+
+-- what is left of the reader's stages
+abbrev pub from-entries : List ℕ → Option Refusal
+from-entries file = found refusal.Entry (bad-entry file)
+
+abbrev pub from-room : List ℕ → ℕ → Option Refusal
+from-room file room = or-else (when (ltb room (fields-of file .scans)) refusal.Buffer) (from-entries file)
+
+abbrev pub from-header : List ℕ → ℕ → Option Refusal
+from-header file room = or-else (broken-field file) (from-room file room)
+
+abbrev pub from-blocks : List ℕ → ℕ → Option Refusal
+from-blocks file room = or-else (found refusal.Block (bad-block file)) (from-header file room)
+
+pub all-stages : (file : List ℕ) (room : ℕ) → read-refusal file room ≡ or-else (when (length-out (length file)) refusal.FileLength) (from-blocks file room)
+unfolding read-refusal
+all-stages file room = refl
+
+-- the answer and the settings buffer of a refused file
+pub refused-read : (file settings : List ℕ) (r r′ : Refusal) → r′ ≡ r → read-refusal file (length settings) ≡ some r
+    → (refused r′ ≡ read-of file (length settings)) × (settings ≡ settings-after (read-refusal file (length settings)) file settings)
+unfolding read-of
+refused-read file settings r r′ q e = (ap refused q ∙ sym (rw e refl), sym (rw e refl))
+
+-- the answer and the settings buffer of a file that is read
+pub accepted-read : (file settings after : List ℕ) (f : Fields) → f ≡ fields-of file → fields-of file .scans ≤ length settings
+    → after ≡ sets settings 0 (entries (entry-at file) 0 (fields-of file .scans)) → read-refusal file (length settings) ≡ none
+    → (answered (values-of f) ≡ read-of file (length settings)) × (after ≡ settings-after (read-refusal file (length settings)) file settings)
+unfolding read-of
+accepted-read file settings after f q h s e =
+    let N = fields-of file .scans in
+    let l = entries (entry-at file) 0 N in
+    let n : length l ≡ N = length-entries (entry-at file) 0 N in
+    let k : 0 + length l ≤ length settings = omega (arith, n, h) in (
+      ap (λ g. answered (values-of g)) q ∙ sym (rw e refl),
+      s ∙ sets-eq l settings 0 k ∙ ap (λ m. l ++ drop m settings) (zero-add (length l) ∙ n) ∙ sym (rw e refl),
+    )
+
+-- the two lengths
+pub two-lengths : (n : ℕ) → length-out n ≡ false → (1024 ≤ n) × (n ≤ 1536)
+two-lengths n e = at (eqb n 1024) (eqb n 1536) refl refl e
+  where
+    at : (a b : Bool) → eqb n 1024 ≡ a → eqb n 1536 ≡ b → not (a || b) ≡ false → (1024 ≤ n) × (n ≤ 1536)
+    at true b p q g = let h = eqb-true n 1024 p in (omega (arith, h), omega (arith, h))
+    at false true p q g = let h = eqb-true n 1536 q in (omega (arith, h), omega (arith, h))
+    at false false p q g = never cc
+
+-- where the length stage passed
+pub sized : {z : Stage} (file : List ℕ) → ended z ≡ when (length-out (length file)) refusal.FileLength → z ≡ Passed
+    → (1024 ≤ length file) × (length file ≤ 1536)
+sized file e q = two-lengths (length file) (none-when (length-out (length file)) refusal.FileLength (last-pass e q))
+
+-- where the header passed, every entry of the plan stands in the file
+pub entries-inside : (file : List ℕ) → broken-field file ≡ none
+    → (fields-of file .scans ≤ 2016) × ((j : ℕ) → j < fields-of file .scans → 512 * (j / 1008 + 2) ≤ length file)
+unfolding broken-field marks-of fields-of number-at
+entries-inside file e =
+    let k = kept (marks-of file) (fields-of file) e in
+    let N = fields-of file .scans in
+    let m : N ≤ 1024 = limited (marks-of file) (fields-of file) k .scans in
+    let l : length file ≡ file-length N = right-length (length file) N (neither (scans-out N) (other-length (length file) N) (k .scans) .1) in
+    let w = within N m in
+    (omega (arith, m), λ j h. omega (arith, l, w, few-blocks N, h))
+
+-- entries that were checked by fields which are the file's
+pub told-entries : (file : List ℕ) {f : Fields} {o : Option Refusal} → f ≡ fields-of file
+    → o ≡ found refusal.Entry (first-from (entry-broken (f .scans) (f .settings) (f .law) (entry-at file)) 0 (1008 * (length file / 512 - 1)))
+    → o ≡ from-entries file
+unfolding bad-entry
+told-entries file {f} {o} e h =
+    h
+    ∙ ap (λ (g : Fields). found refusal.Entry (first-from (entry-broken (g .scans) (g .settings) (g .law) (entry-at file)) 0 (1008 * (length file / 512 - 1)))) e

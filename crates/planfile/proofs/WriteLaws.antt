@@ -1,0 +1,88 @@
+-- The writer's stages, and its answer. Assumes nothing.
+use mathlib.Core.Path.{_≡_, refl, sym, ap, _∙_}
+use mathlib.Core.Bool.{Bool, true, false, not, _||_}
+use mathlib.Core.Option.{Option, none, some}
+use mathlib.Core.List.{List, [], _∷_, _++_, append-nil, append-assoc}
+use Prim.Native.Nat.{ℕ, zero, suc, _+_, _*_, _≤_, _<_}
+use native.Mathlib.Nat.{zero-add}
+use native.Mathlib.Omega.{arith}
+use lib.Dec.{ltb}
+use lib.ListN.{length, take, drop, getD}
+use lib.Seq.{sets, sets-eq}
+use borrow.Author.Tests.{ltb-false, lt-ltb}
+use Rattle.tables.specs.declared.refusal.Refusal.{Refusal}
+use Rattle.tables.specs.declared.refusal.Refusal.the-variants as refusal
+use Rattle.tables.specs.Refusals.{refused, answered}
+use Rattle.tables.specs.Planning.{first-refusal, scans-out}
+use Rattle.tables.proofs.Tests.{in-range}
+use Rattle.planfile.specs.declared.fields.Fields.{Fields}
+use Rattle.planfile.specs.File.{sealed, header, data-block, data-blocks, data-from, entry-of, file-of, file-length, either}
+use Rattle.planfile.specs.Rules.{or-else, when, found, first-from, entry-broken, header-rules}
+use Rattle.planfile.specs.Writing.{no-marks, write-short, write-refusal, write-of, file-after}
+use Rattle.planfile.proofs.CheckLaws.{neither, none-when}
+use Rattle.planfile.proofs.FieldLaws.{Kept, kept, Writable, writable, entry-small}
+use Rattle.planfile.proofs.Back.{length-back}
+
+-- what is left of the writer's stages
+abbrev pub from-settings : Fields → List ℕ → Option Refusal
+from-settings f settings =
+    found refusal.Entry (first-from (entry-broken (f .scans) (f .settings) (f .law) (λ j. getD settings j 0)) 0 (f .scans))
+
+abbrev pub from-short : Fields → List ℕ → ℕ → Option Refusal
+from-short f settings room = or-else (when (write-short (f .scans) (length settings) room) refusal.Buffer) (from-settings f settings)
+
+pub write-stages : (f : Fields) (settings : List ℕ) (room : ℕ)
+    → write-refusal f settings room ≡ or-else (first-refusal (header-rules no-marks f)) (from-short f settings room)
+unfolding write-refusal
+write-stages f settings room = refl
+
+-- the answer and the file buffer of a refused write
+pub refused-write : (f : Fields) (settings file : List ℕ) (r r′ : Refusal) → r′ ≡ r → write-refusal f settings (length file) ≡ some r
+    → (refused r′ ≡ write-of f settings (length file)) × (file ≡ file-after (write-refusal f settings (length file)) f settings file)
+unfolding write-of
+refused-write f settings file r r′ q e = (ap refused q ∙ sym (rw e refl), sym (rw e refl))
+
+-- the answer and the file buffer of a write
+pub accepted-write : (f : Fields) (settings file after : List ℕ) (n : ℕ) → n ≡ file-length (f .scans) → file-length (f .scans) ≤ length file
+    → after ≡ sets file 0 (file-of f settings) → write-refusal f settings (length file) ≡ none
+    → (answered (n ∷ []) ≡ write-of f settings (length file)) × (after ≡ file-after (write-refusal f settings (length file)) f settings file)
+unfolding write-of
+accepted-write f settings file after n q h s e =
+    let l = length-back f settings in
+    let k : 0 + length (file-of f settings) ≤ length file = omega (arith, l, h) in (
+      ap (λ m. answered (m ∷ [])) q ∙ sym (rw e refl),
+      s ∙ sets-eq (file-of f settings) file 0 k
+          ∙ ap (λ m. file-of f settings ++ drop m file) (zero-add (length (file-of f settings)) ∙ l)
+          ∙ sym (rw e refl),
+    )
+
+-- where the rules are kept, N is in its range
+pub scans-inside : (f : Fields) → first-refusal (header-rules no-marks f) ≡ none → (1 ≤ f .scans) × (f .scans ≤ 1024)
+scans-inside f e = in-range (neither (scans-out (f .scans)) false (kept no-marks f e .scans) .0)
+
+-- where the room is enough
+pub room-inside : (N settings room : ℕ) → when (write-short N settings room) refusal.Buffer ≡ none → (N ≤ settings) × (file-length N ≤ room)
+room-inside N settings room e =
+    let t = neither (ltb settings N) (ltb room (file-length N)) (none-when (write-short N settings room) refusal.Buffer e) in
+    (ltb-false settings N (t .0), ltb-false room (file-length N) (t .1))
+
+-- where nothing is refused, every setting fits half a byte
+pub settings-small : (f : Fields) (settings : List ℕ) (room : ℕ) → write-refusal f settings room ≡ none → (j : ℕ) → j < f .scans → getD settings j 0 < 16
+settings-small f settings room e j h =
+    let t : ltb j (f .scans) ≡ true = lt-ltb j (f .scans) h in
+    rw (ap (λ b. either b (getD settings j 0) 0) t) at (entry-small f settings (writable f settings room e) j)
+
+-- one data block more, from block b on
+data-snoc : (e : ℕ → ℕ) (b n : ℕ) → data-from e b n ++ sealed (data-block e (b + n)) ≡ data-from e b (suc n)
+data-snoc e b zero = let h : b + 0 ≡ b = omega arith in ap (λ k. sealed (data-block e k)) h ∙ sym (append-nil (sealed (data-block e b)))
+data-snoc e b (suc n) =
+    let h : b + suc n ≡ suc b + n = omega arith in
+    append-assoc (sealed (data-block e b)) (data-from e (suc b) n) (sealed (data-block e (b + suc n)))
+    ∙ ap (λ l. sealed (data-block e b) ++ l) (ap (λ k. data-from e (suc b) n ++ sealed (data-block e k)) h ∙ data-snoc e (suc b) n)
+
+-- one data block more
+pub data-more : (e : ℕ → ℕ) (n : ℕ) → data-from e 0 n ++ sealed (data-block e n) ≡ data-from e 0 (n + 1)
+data-more e n =
+    let z : n ≡ 0 + n = omega arith in
+    let s : suc n ≡ n + 1 = omega arith in
+    ap (λ k. data-from e 0 n ++ sealed (data-block e k)) z ∙ data-snoc e 0 n ∙ ap (data-from e 0) s

@@ -1,0 +1,28 @@
+-- `planfile::header::header` meets its contract. Assumes nothing.
+use mathlib.Core.Path.{_≡_, refl, sym, ap, _∙_}
+use denote.Ref.{now}
+use Rattle.tables.specs.Planning.{first-refusal}
+use Rattle.planfile.specs.declared.fields.Fields.{Fields}
+use Rattle.planfile.specs.Rules.{header-rules}
+use Rattle.planfile.specs.Reading.{fields-of, marks-of, broken-field}
+use borrow.Author.Needs.{needs}
+use Rattle.planfile.proofs.header.header.Statement.{statement}
+use Rattle.planfile.proofs.header.header.Tie as tie
+
+marks-requires : tie.Need-marks-requires
+unfolding fields-of
+marks-requires c κs = (c .before .pre .0, ap (λ (f : Fields). f .scans) (c .before .pre .1))
+
+rules-requires : tie.Need-rules-requires
+rules-requires c κs = search needs
+
+returns : tie.Need-returns
+unfolding broken-field
+returns c =
+    let s = now (c .before .before .before .args .file) in
+    c .rules .ensures
+    ∙ ap (λ m. first-refusal (header-rules m (c .before .before .before .args .f))) (c .before .marks .ensures)
+    ∙ ap (λ f. first-refusal (header-rules (marks-of s) f)) (c .before .before .before .pre .1)
+
+pub header-spec : {M : Type 1} → statement M
+header-spec = tie.close (tie.spec marks-requires rules-requires returns)

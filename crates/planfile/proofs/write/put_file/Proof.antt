@@ -1,0 +1,107 @@
+-- `planfile::write::put_file` meets its contract: block after block. Assumes nothing.
+use native.Mathlib.Omega.{arith}
+use borrow.Author.Needs.{needs}
+use mathlib.Core.Path.{_≡_, refl, sym, ap, _∙_}
+use mathlib.Core.List.{List, _++_}
+use Prim.Native.Nat.{ℕ, suc, _+_, _*_, _-_, _≤_}
+use native.Mathlib.Nat.{zero-add}
+use native.Mathlib.Numerals.{add-one}
+use lib.ListN.{length}
+use lib.Seq.{sets, length-sets}
+use denote.Ref.{now}
+use Rattle.planfile.specs.File.{sealed, header, data-block, data-blocks, data-from, entry-of, file-length}
+use Rattle.planfile.proofs.PartLaws.{sets-append}
+use Rattle.planfile.proofs.BlockLaws.{length-sealed, length-header, length-data}
+use Rattle.planfile.proofs.WriteLaws.{data-more}
+use Rattle.planfile.proofs.write.put_file.Statement.{statement}
+use Rattle.planfile.proofs.write.put_file.Tie as tie
+
+abbrev Inv-loop : tie.InvT-loop
+Inv-loop file₀ f settings blocks b₀ file b = (b ≤ blocks) × ((length file ≡ length file₀) × (file ≡ sets file₀ 512 (data-from (entry-of (f .scans) settings) 0 b)))
+
+abbrev μ-loop : tie.MeasureT-loop
+μ-loop file₀ f settings blocks b₀ file b = blocks - b
+
+put-header-requires : tie.Need-put-header-requires Inv-loop μ-loop
+put-header-requires c κs = omega (arith, c .before .before .before .pre .0 .1)
+
+data-blocks-requires : tie.Need-data-blocks-requires Inv-loop μ-loop
+data-blocks-requires c κs = search needs
+
+loop-holds : tie.Need-loop-holds Inv-loop μ-loop
+loop-holds c = (omega arith, (refl, refl))
+
+put-data-requires : tie.Need-put-data-requires Inv-loop μ-loop
+put-data-requires c κs =
+    let s = c .before .before .before .before .before .before .before .before .before .before in
+    let l = c .before .before .loop in
+    let h = ap length (c .before .before .before .before .before .before .put-header .ensures) ∙ length-sets (now (s .args .file)) 0 (sealed (header (s .args .f))) in
+    ((omega (arith, l .inv .0, c .before .before .before .data-blocks .ensures .1, c .before .loop-test .taken), omega (arith, l .inv .1 .0, h, s .pre .0 .1, c .before .before .before .data-blocks .ensures .0, c .before .loop-test .taken)), s .pre .1)
+
+add-b : tie.Need-add-b Inv-loop μ-loop
+add-b c = omega (arith, c .before .before .before .before .before .before .data-blocks .ensures .1)
+
+loop-less : tie.Need-loop-less Inv-loop μ-loop
+loop-less c = omega arith
+
+loop-again : tie.Need-loop-again Inv-loop μ-loop
+loop-again c =
+    let s = c .before .before .before .before .before .before .before .before .before .before .before .before .before in
+    let l = c .before .before .before .before .before .loop in
+    let e = entry-of (s .args .f .scans) (now (s .args .settings)) in
+    let d = c .before .before .before .before .before .before .before .before .before .put-header .last .0 in (
+      omega (arith, c .before .before .before .before .loop-test .taken),
+      (
+        ap length (c .before .before .put-data .ensures) ∙ length-sets (l .file) (512 * suc (l .b)) (sealed (data-block e (l .b))) ∙ l .inv .1 .0,
+        c .before .before .put-data .ensures
+            ∙ ap (λ x. sets x (512 * suc (l .b)) (sealed (data-block e (l .b)))) (l .inv .1 .1)
+            ∙ sets-append d (data-from e 0 (l .b)) (sealed (data-block e (l .b))) 512 (512 * suc (l .b)) (omega (arith, length-data (l .b) e 0))
+            ∙ ap (sets d 512) (data-more e (l .b)),
+      ),
+    )
+
+add-result : tie.Need-add-result Inv-loop μ-loop
+add-result c = omega (arith, c .before .before .data-blocks .ensures .1)
+
+mul-result : tie.Need-mul-result Inv-loop μ-loop
+mul-result c = omega (arith, c .before .before .data-blocks .ensures .1)
+
+same-length : tie.Need-same-length Inv-loop μ-loop
+same-length c =
+    let s = c .before .before .before .before .before .before .before .before .before in
+    c .before .loop .inv .1 .0 ∙ ap length (c .before .before .before .before .before .put-header .ensures) ∙ length-sets (now (s .args .file)) 0 (sealed (header (s .args .f)))
+
+returns : tie.Need-returns Inv-loop μ-loop
+returns c =
+    let s = c .before .before .before .before .before .before .before .before .before in
+    let a = s .args in
+    let l = c .before .loop in
+    let e = entry-of (a .f .scans) (now (a .settings)) in
+    let m = c .before .before .data-blocks .ensures .0 in
+    let n : l .b ≡ data-blocks (a .f .scans) = omega (arith, m, l .inv .0) in
+    let d = now (a .file) in (
+      ap (λ k. 512 * k) (add-one _ ∙ ap suc m),
+      l .inv .1 .1
+          ∙ ap (λ k. sets (c .before .before .before .before .before .put-header .last .0) 512 (data-from e 0 k)) n
+          ∙ ap (λ x. sets x 512 (data-from e 0 (data-blocks (a .f .scans)))) (c .before .before .before .before .before .put-header .ensures)
+          ∙ sets-append d (sealed (header (a .f))) (data-from e 0 (data-blocks (a .f .scans))) 0 512
+          (sym (zero-add (length (sealed (header (a .f)))) ∙ length-sealed (header (a .f)) (length-header (a .f)))),
+    )
+
+pub put-file-spec : {M : Type 1} → statement M
+put-file-spec =
+    tie.close
+    (tie.spec
+    Inv-loop
+    μ-loop
+    put-header-requires
+    data-blocks-requires
+    loop-holds
+    put-data-requires
+    add-b
+    loop-less
+    loop-again
+    add-result
+    mul-result
+    same-length
+    returns)

@@ -1,0 +1,107 @@
+-- What the reader answers. Assumes nothing.
+use mathlib.Core.Path.{_≡_}
+use mathlib.Core.Bool.{Bool, true, false, not, _||_}
+use mathlib.Core.Option.{Option, none, some}
+use mathlib.Core.List.{List, [], _∷_, _++_}
+use Prim.Native.Nat.{ℕ, zero, suc, _+_, _*_, _-_, _/_}
+use lib.Dec.{eqb, ltb}
+use lib.ListN.{length, getD, take, drop, replicate}
+use Rattle.tables.specs.declared.refusal.Refusal.{Refusal}
+use Rattle.tables.specs.declared.refusal.Refusal.the-variants as refusal
+use Rattle.tables.specs.Refusals.{Reply, refused, answered}
+use Rattle.tables.specs.Planning.{first-refusal}
+use Rattle.tables.specs.Room.{or-answer}
+use Rattle.planfile.specs.declared.fields.Fields.{Fields}
+use Rattle.planfile.specs.declared.read.ReadAnswer.{ReadAnswer}
+use Rattle.planfile.specs.declared.read.ReadAnswer.the-variants.{Read, Refused}
+use Rattle.planfile.specs.Bytes.{part, number-at, sum}
+use Rattle.planfile.specs.File.{letters, block-size, block-entries, either, entry-at}
+use Rattle.planfile.specs.declared.fields.Marks.{Marks}
+use Rattle.planfile.specs.Rules.{header-rules, entry-broken, first-from, found, when, or-else}
+
+-- 11: "file length not 1,024 or 1,536"
+abbrev pub length-out : ℕ → Bool
+length-out n = not (eqb n 1024 || eqb n 1536)
+
+-- 12: "a block's number or check is wrong"
+unfoldable pub block-broken : List ℕ → ℕ → Bool
+block-broken file k =
+    not (eqb (number-at (block-size * k) 4 file) k) || not (eqb (number-at (block-size * k + 508) 4 file) (sum (part (block-size * k) 508 file)))
+
+-- "lowest such block", of 2 or 3
+unfoldable pub bad-block : List ℕ → Option ℕ
+bad-block file = first-from (block-broken file) 0 (length file / block-size)
+
+-- the fields of block 0
+unfoldable pub fields-of : List ℕ → Fields
+fields-of file = record {
+  scans = number-at 8 2 file;
+  settings = number-at 10 1 file;
+  law = number-at 11 1 file;
+  kind = number-at 12 1 file;
+  budget = number-at 16 8 file;
+  n = number-at 24 4 file;
+  d = number-at 28 4 file;
+  rate = record { 0 = number-at 32 4 file };
+  distortion = record { 0 = number-at 36 4 file };
+  peak = number-at 40 4 file;
+  floor = record { 0 = number-at 44 4 file };
+}
+
+-- some byte is not the one that should stand there
+abbrev pub differ : List ℕ → List ℕ → Bool
+differ [] t = false
+differ (a ∷ s) t = not (eqb a (getD t 0 0)) || differ s (drop 1 t)
+
+-- "N over 1,008 goes with length 1,536 and smaller N with 1,024; else refusal 13 at byte 8"
+abbrev pub other-length : ℕ → ℕ → Bool
+other-length n N = either (ltb block-entries N) (not (eqb n 1536)) (not (eqb n 1024))
+
+unfoldable pub marks-of : List ℕ → Marks
+marks-of file = record {
+  letters = differ letters (part 4 4 file);
+  length = other-length (length file) (number-at 8 2 file);
+  run_13 = differ (replicate 3 0) (part 13 3 file);
+  run_48 = differ (replicate 460 0) (part 48 460 file);
+}
+
+unfoldable pub broken-field : List ℕ → Option Refusal
+broken-field file = first-refusal (header-rules (marks-of file) (fields-of file))
+
+-- 14: "an entry or filler breaks its rule", with "its entry number": all entries of the data blocks
+unfoldable pub bad-entry : List ℕ → Option ℕ
+bad-entry file =
+    let f = fields-of file in
+    first-from (entry-broken (f .scans) (f .settings) (f .law) (entry-at file)) 0 (block-entries * (length file / block-size - 1))
+
+-- "The reader checks 11, 12, 13, 6, 14"; room is the length of the lent settings buffer
+unfoldable pub read-refusal : List ℕ → ℕ → Option Refusal
+read-refusal file room =
+    or-else (when (length-out (length file)) refusal.FileLength)
+    (or-else (found refusal.Block (bad-block file))
+    (or-else (broken-field file)
+    (or-else (when (ltb room (fields-of file .scans)) refusal.Buffer)
+    (found refusal.Entry (bad-entry file)))))
+
+-- scans, settings, law, kind, budget, n, d, rate, distortion, peak, floor
+abbrev pub values-of : Fields → List ℕ
+values-of f =
+    f .scans ∷ f .settings ∷ f .law ∷ f .kind ∷ f .budget ∷ f .n ∷ f .d ∷ f .rate .0 ∷ f .distortion .0 ∷ f .peak ∷ f .floor .0 ∷ []
+
+unfoldable pub read-of : List ℕ → ℕ → Reply
+read-of file room = or-answer (read-refusal file room) (values-of (fields-of file))
+
+-- the first n entries of a file
+abbrev pub entries : (ℕ → ℕ) → ℕ → ℕ → List ℕ
+entries e j zero = []
+entries e j (suc n) = e j ∷ entries e (suc j) n
+
+-- "The reader hands the first N settings to the lent buffer and changes nothing on a refusal."
+abbrev pub settings-after : Option Refusal → List ℕ → List ℕ → List ℕ
+settings-after none file settings = entries (entry-at file) 0 (fields-of file .scans) ++ drop (fields-of file .scans) settings
+settings-after (some r) file settings = settings
+
+-- the number and values of the reader's answer
+abbrev pub read-reply : ReadAnswer → Reply
+read-reply (Read f) = answered (values-of f)
+read-reply (Refused r) = refused r

@@ -1,0 +1,46 @@
+-- What the writer answers. Assumes nothing.
+use mathlib.Core.Bool.{Bool, true, false, _||_}
+use mathlib.Core.Option.{Option, none, some}
+use mathlib.Core.List.{List, [], _∷_, _++_}
+use Prim.Native.Nat.{ℕ}
+use lib.Dec.{ltb}
+use lib.ListN.{length, getD, drop}
+use Rattle.tables.specs.declared.refusal.Refusal.{Refusal}
+use Rattle.tables.specs.declared.refusal.Refusal.the-variants as refusal
+use Rattle.tables.specs.Refusals.{Reply, refused, answered}
+use Rattle.tables.specs.Planning.{first-refusal}
+use Rattle.tables.specs.Room.{or-answer}
+use Rattle.planfile.specs.declared.fields.Fields.{Fields}
+use Rattle.planfile.specs.declared.write.WriteAnswer.{WriteAnswer}
+use Rattle.planfile.specs.declared.write.WriteAnswer.the-variants.{Written, Refused}
+use Rattle.planfile.specs.File.{file-of, file-length}
+use Rattle.planfile.specs.declared.fields.Marks.{Marks}
+use Rattle.planfile.specs.Rules.{header-rules, entry-broken, first-from, found, when, or-else}
+
+-- what is written has its letters, its zeros and its length
+abbrev pub no-marks : Marks
+no-marks = record { letters = false; length = false; run_13 = false; run_48 = false }
+
+-- 6: "where its settings slice is under N or its buffer too short"
+abbrev pub write-short : (N settings file : ℕ) → Bool
+write-short N settings file = ltb settings N || ltb file (file-length N)
+
+-- "the writer 13, 6, 14"; room is the length of the lent file buffer
+unfoldable pub write-refusal : Fields → List ℕ → ℕ → Option Refusal
+write-refusal f settings room =
+    or-else (first-refusal (header-rules no-marks f))
+    (or-else (when (write-short (f .scans) (length settings) room) refusal.Buffer)
+    (found refusal.Entry (first-from (entry-broken (f .scans) (f .settings) (f .law) (λ j. getD settings j 0)) 0 (f .scans))))
+
+unfoldable pub write-of : Fields → List ℕ → ℕ → Reply
+write-of f settings room = or-answer (write-refusal f settings room) (file-length (f .scans) ∷ [])
+
+-- "replaces exactly the first 1,024 or 1,536 bytes of a lent buffer"; "A refused write changes no byte."
+abbrev pub file-after : Option Refusal → Fields → List ℕ → List ℕ → List ℕ
+file-after none f settings file = file-of f settings ++ drop (file-length (f .scans)) file
+file-after (some r) f settings file = file
+
+-- the number and values of the writer's answer: the length of the file
+abbrev pub write-reply : WriteAnswer → Reply
+write-reply (Written n) = answered (n ∷ [])
+write-reply (Refused r) = refused r

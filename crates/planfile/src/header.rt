@@ -1,0 +1,112 @@
+// Block 0 as it is read: its fields and its marks.
+use crate::bytes::eight;
+use crate::bytes::four;
+use crate::bytes::one;
+use crate::bytes::two;
+use crate::fields::Fields;
+use crate::fields::Marks;
+use crate::rules::rules;
+use crate::stage::Stage;
+use weights::cost::Dist;
+use weights::cost::Rate;
+ghost use mathlib.Core.Path.{_≡_};
+ghost use Prim.Native.Nat.{ℕ, _+_, _≤_};
+ghost use lib.ListN.{length, replicate};
+ghost use Rattle.planfile.specs.Bytes.{part, «number-at»};
+ghost use Rattle.planfile.specs.File.{letters};
+ghost use Rattle.planfile.specs.Reading.{differ, «other-length», «fields-of», «marks-of», «broken-field»};
+ghost use Rattle.planfile.specs.Stages.{ended};
+
+pub fn fields(file: &[u8]) -> Fields
+    requires { ⌜ 512 ≤ length (now file) ⌝ }
+    ensures { λ r. ⌜ r ≡ fields-of (now (file .entry)) ⌝ }
+{
+    let scans = two(file, 8);
+    let settings = one(file, 10);
+    let law = one(file, 11);
+    let kind = one(file, 12);
+    let budget = eight(file, 16);
+    let n = four(file, 24);
+    let d = four(file, 28);
+    let rate = Rate(four(file, 32));
+    let distortion = Dist(four(file, 36));
+    let peak = four(file, 40);
+    let floor = Dist(four(file, 44));
+    Fields {
+        scans,
+        settings,
+        law,
+        kind,
+        budget,
+        n,
+        d,
+        rate,
+        distortion,
+        peak,
+        floor,
+    }
+}
+
+fn other_letters(file: &[u8]) -> bool
+    requires { ⌜ 512 ≤ length (now file) ⌝ }
+    ensures { λ r. ⌜ r ≡ differ letters (part 4 4 (now (file .entry))) ⌝ }
+{
+    let fixed = b"QPL1";
+    let mut i = 0;
+    while i < 4 {
+        if file[4 + i] != fixed[i] {
+            return true;
+        }
+        i += 1;
+    }
+    false
+}
+
+// Is one of the k bytes from `at` on not zero?
+fn not_zero(file: &[u8], at: usize, k: usize) -> bool
+    requires { ⌜ at + k ≤ length (now file) ⌝ }
+    ensures { λ r. ⌜ r ≡ differ (replicate k 0) (part at k (now (file .entry))) ⌝ }
+{
+    let mut i = 0;
+    while i < k {
+        if file[at + i] != 0 {
+            return true;
+        }
+        i += 1;
+    }
+    false
+}
+
+// N over 1,008 goes with length 1,536 and smaller N with 1,024.
+fn wrong_length(length: usize, scans: u64) -> bool
+    ensures { λ r. ⌜ r ≡ other-length length scans ⌝ }
+{
+    if 1008 < scans {
+        return length != 1536;
+    }
+    length != 1024
+}
+
+fn marks(file: &[u8], scans: u64) -> Marks
+    requires { ⌜ (512 ≤ length (now file)) × (scans ≡ number-at 8 2 (now file)) ⌝ }
+    ensures { λ r. ⌜ r ≡ marks-of (now (file .entry)) ⌝ }
+{
+    let letters = other_letters(file);
+    let length = wrong_length(file.len(), scans);
+    let run_13 = not_zero(file, 13, 3);
+    let run_48 = not_zero(file, 48, 460);
+    Marks {
+        letters,
+        length,
+        run_13,
+        run_48,
+    }
+}
+
+// The third stage.
+pub fn header(file: &[u8], f: Fields) -> Stage
+    requires { ⌜ (512 ≤ length (now file)) × (f ≡ fields-of (now file)) ⌝ }
+    ensures { λ r. ⌜ ended r ≡ broken-field (now (file .entry)) ⌝ }
+{
+    rules(marks(file, f.scans), f)
+}

@@ -1,0 +1,86 @@
+// A plan file as it is written: block 0, then the data blocks.
+use crate::bytes::put_eight;
+use crate::bytes::put_four;
+use crate::bytes::put_one;
+use crate::bytes::put_two;
+use crate::bytes::put_zeros;
+use crate::bytes::sum_of;
+use crate::fields::Fields;
+use crate::packed::put;
+ghost use mathlib.Core.Path.{_≡_};
+ghost use Prim.Native.Nat.{ℕ, suc, _+_, _*_, _≤_, _<_};
+ghost use lib.ListN.{length, getD};
+ghost use lib.Seq.{sets};
+ghost use Rattle.planfile.specs.Bytes.{le, sum, part};
+ghost use Rattle.planfile.specs.File.{letters, sealed, header, pairs, «entry-of», «data-block»};
+
+// The four letters, from a fixed byte string.
+fn put_letters(file: &mut [u8])
+    requires { ⌜ 8 ≤ length (now file) ⌝ }
+    ensures { λ _. ⌜ now (file .exit) ≡ sets (now (file .entry)) 4 letters ⌝ }
+{
+    let fixed = b"QPL1";
+    let mut i = 0;
+    while i < 4 {
+        file[4 + i] = fixed[i];
+        i += 1;
+    }
+}
+
+// The sum of a block's first 508 bytes goes to its last four.
+fn seal(file: &mut [u8], at: usize)
+    requires { ⌜ (at ≤ 1024) × (at + 512 ≤ length (now file)) ⌝ }
+    ensures { λ _. ⌜ now (file .exit) ≡ sets (now (file .entry)) (at + 508) (le 4 (sum (part at 508 (now (file .entry))))) ⌝ }
+{
+    let check = sum_of(file, at, 508);
+    put_four(file, at + 508, check);
+}
+
+// Block 0, field after field.
+pub fn put_header(file: &mut [u8], f: Fields)
+    requires { ⌜ 512 ≤ length (now file) ⌝ }
+    ensures { λ _. ⌜ now (file .exit) ≡ sets (now (file .entry)) 0 (sealed (header f)) ⌝ }
+{
+    put_four(file, 0, 0);
+    put_letters(file);
+    put_two(file, 8, f.scans);
+    put_one(file, 10, f.settings);
+    put_one(file, 11, f.law);
+    put_one(file, 12, f.kind);
+    put_zeros(file, 13, 3);
+    put_eight(file, 16, f.budget);
+    put_four(file, 24, f.n);
+    put_four(file, 28, f.d);
+    put_four(file, 32, f.rate.0);
+    put_four(file, 36, f.distortion.0);
+    put_four(file, 40, f.peak);
+    put_four(file, 44, f.floor.0);
+    put_zeros(file, 48, 460);
+    seal(file, 0);
+}
+
+// The entries of data block b, counted from 0: the fillers first, and then the settings by entry number.
+fn put_entries(file: &mut [u8], b: usize, settings: &[u8], scans: usize)
+    requires { ⌜ (b < 2) × (512 * suc b + 512 ≤ length (now file)) ⌝ }
+    requires { ⌜ (scans ≤ length (now settings)) × ((j : ℕ) → j < scans → getD (now settings) j 0 < 16) ⌝ }
+    ensures { λ _. ⌜ now (file .exit) ≡ sets (now (file .entry)) (512 * suc b + 4) (pairs (entry-of scans (now (settings .entry))) (1008 * b) 504) ⌝ }
+{
+    put_zeros(file, 512 * (b + 1) + 4, 504);
+    let mut j = 1008 * b;
+    while j < scans && j < 1008 * (b + 1) {
+        put(file, j, settings[j]);
+        j += 1;
+    }
+}
+
+// Data block b, counted from 0: its number, its entries and its sum.
+pub fn put_data(file: &mut [u8], b: usize, settings: &[u8], scans: usize)
+    requires { ⌜ (b < 2) × (512 * suc b + 512 ≤ length (now file)) ⌝ }
+    requires { ⌜ (scans ≤ length (now settings)) × ((j : ℕ) → j < scans → getD (now settings) j 0 < 16) ⌝ }
+    ensures { λ _. ⌜ now (file .exit) ≡ sets (now (file .entry)) (512 * suc b) (sealed (data-block (entry-of scans (now (settings .entry))) b)) ⌝ }
+{
+    let at = 512 * (b + 1);
+    put_four(file, at, b as u64 + 1);
+    put_entries(file, b, settings, scans);
+    seal(file, at);
+}

@@ -1,0 +1,66 @@
+// The reader: its stages in order, and then the settings.
+use crate::blocks::blocks;
+use crate::blocks::size;
+use crate::entries::check_file;
+use crate::fields::Fields;
+use crate::header::fields;
+use crate::header::header;
+use crate::packed::get;
+use crate::stage::Stage;
+use crate::stage::unless;
+use crate::stage::why;
+use tables::refusal::Refusal;
+ghost use mathlib.Core.Path.{_≡_};
+ghost use Prim.Native.Nat.{ℕ, _+_, _*_, _/_, _≤_, _<_};
+ghost use lib.ListN.{length};
+ghost use lib.Seq.{sets};
+ghost use Rattle.planfile.specs.File.{«entry-at»};
+ghost use Rattle.planfile.specs.Reading.{entries, «read-of», «read-reply», «read-refusal», «settings-after»};
+
+pub enum ReadAnswer {
+    Read(Fields),
+    Refused(Refusal),
+}
+
+// The first `scans` entries go to the settings buffer.
+fn hand_over(file: &[u8], settings: &mut [u8], scans: usize)
+    requires { ⌜ (scans ≤ length (now settings)) × ((scans ≤ 2016) × ((j : ℕ) → j < scans → 512 * (j / 1008 + 2) ≤ length (now file))) ⌝ }
+    ensures { λ _. ⌜ now (settings .exit) ≡ sets (now (settings .entry)) 0 (entries (entry-at (now (file .entry))) 0 scans) ⌝ }
+{
+    let mut j = 0;
+    while j < scans {
+        settings[j] = get(file, j);
+        j += 1;
+    }
+}
+
+// Reads a plan file of any bytes.
+pub fn read_plan(file: &[u8], settings: &mut [u8]) -> ReadAnswer
+    ensures { λ r. ⌜ read-reply r ≡ read-of (now (file .entry)) (length (now (settings .entry))) ⌝ }
+    ensures { λ _. ⌜ now (settings .exit) ≡ settings-after (read-refusal (now (file .entry)) (length (now (settings .entry)))) (now (file .entry)) (now (settings .entry)) ⌝ }
+{
+    let sized = size(file);
+    let Stage::Passed = sized else {
+        return ReadAnswer::Refused(why(sized));
+    };
+    let blocked = blocks(file);
+    let Stage::Passed = blocked else {
+        return ReadAnswer::Refused(why(blocked));
+    };
+    let f = fields(file);
+    let headed = header(file, f);
+    let Stage::Passed = headed else {
+        return ReadAnswer::Refused(why(headed));
+    };
+    let room = settings.len() as u64;
+    let roomed = unless(room < f.scans, Refusal::Buffer);
+    let Stage::Passed = roomed else {
+        return ReadAnswer::Refused(why(roomed));
+    };
+    let entered = check_file(file, f.scans, f.settings, f.law);
+    let Stage::Passed = entered else {
+        return ReadAnswer::Refused(why(entered));
+    };
+    hand_over(file, settings, f.scans as usize);
+    ReadAnswer::Read(f)
+}

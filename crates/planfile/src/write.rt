@@ -1,0 +1,88 @@
+// The writer: the rules in order, and then the bytes.
+use crate::entries::check_settings;
+use crate::fields::Fields;
+use crate::fields::Marks;
+use crate::put::put_data;
+use crate::put::put_header;
+use crate::rules::rules;
+use crate::stage::Stage;
+use crate::stage::unless;
+use crate::stage::why;
+use tables::refusal::Refusal;
+ghost use mathlib.Core.Path.{_≡_};
+ghost use Prim.Native.Nat.{ℕ, _≤_, _<_};
+ghost use lib.ListN.{length, getD};
+ghost use lib.Seq.{sets};
+ghost use Rattle.planfile.specs.File.{«data-blocks», «file-length», «file-of»};
+ghost use Rattle.planfile.specs.Writing.{«write-short», «write-of», «write-reply», «write-refusal», «file-after»};
+
+pub enum WriteAnswer {
+    // the length of the file
+    Written(u64),
+    Refused(Refusal),
+}
+
+// N over 1,008 goes with length 1,536 and smaller N with 1,024.
+fn data_blocks(scans: u64) -> u64
+    ensures { λ r. ⌜ (r ≡ data-blocks scans) × (r ≤ 2) ⌝ }
+{
+    if 1008 < scans {
+        return 2;
+    }
+    1
+}
+
+// The settings slice is under N, or the buffer too short.
+fn too_short(scans: u64, settings: u64, room: u64) -> bool
+    ensures { λ r. ⌜ r ≡ write-short scans settings room ⌝ }
+{
+    if settings < scans {
+        return true;
+    }
+    room < 512 * (data_blocks(scans) + 1)
+}
+
+// The whole file, block after block; its length.
+fn put_file(file: &mut [u8], f: Fields, settings: &[u8]) -> u64
+    requires { ⌜ (f .scans ≤ 1024) × (file-length (f .scans) ≤ length (now file)) ⌝ }
+    requires { ⌜ (f .scans ≤ length (now settings)) × ((j : ℕ) → j < f .scans → getD (now settings) j 0 < 16) ⌝ }
+    ensures { λ r. ⌜ (r ≡ file-length (f .scans)) × (now (file .exit) ≡ sets (now (file .entry)) 0 (file-of f (now (settings .entry)))) ⌝ }
+{
+    put_header(file, f);
+    let blocks = data_blocks(f.scans);
+    let mut b = 0;
+    while b < blocks {
+        put_data(file, b as usize, settings, f.scans as usize);
+        b += 1;
+    }
+    512 * (blocks + 1)
+}
+
+// Writes the file of a plan to the front of the lent buffer.
+pub fn write_plan(f: Fields, settings: &[u8], file: &mut [u8]) -> WriteAnswer
+    ensures { λ r. ⌜ write-reply r ≡ write-of f (now (settings .entry)) (length (now (file .entry))) ⌝ }
+    ensures { λ _. ⌜ now (file .exit) ≡ file-after (write-refusal f (now (settings .entry)) (length (now (file .entry)))) f (now (settings .entry)) (now (file .entry)) ⌝ }
+{
+    let marks = Marks {
+        letters: false,
+        length: false,
+        run_13: false,
+        run_48: false,
+    };
+    let headed = rules(marks, f);
+    let Stage::Passed = headed else {
+        return WriteAnswer::Refused(why(headed));
+    };
+    let roomed = unless(
+        too_short(f.scans, settings.len() as u64, file.len() as u64),
+        Refusal::Buffer,
+    );
+    let Stage::Passed = roomed else {
+        return WriteAnswer::Refused(why(roomed));
+    };
+    let entered = check_settings(settings, f.scans as usize, f.settings, f.law);
+    let Stage::Passed = entered else {
+        return WriteAnswer::Refused(why(entered));
+    };
+    WriteAnswer::Written(put_file(file, f, settings))
+}
