@@ -1,6 +1,7 @@
 #!/usr/bin/env python3
 """What the room question must answer, written from document 01, "Room" and "Numbers a caller can get back", and sharing nothing with the
-library. It prints the lines that crates/room_cases must write: C, N and Q, the number that comes back (0: no refusal) and the values."""
+library. `vectors.py room` writes the lines that crates/room_cases must write: C, N and Q, the number that comes back (0: no refusal) and the
+values."""
 
 
 def room(channels, scans, settings):
@@ -14,15 +15,15 @@ def room(channels, scans, settings):
     cells = settings
     for _ in range(1, scans):
         cells += settings ** 2
-    return [0, cells, sum(4 * cells for _ in range(channels)), scans * settings]
+    return [0, cells, 4 * cells * channels, scans * settings]
 
 
-def main():
-    top = 2 ** 64 - 1
+def room_cases():
+    """Both sides of every limit."""
+    top, lines = 2 ** 64 - 1, []
     for channels in (0, 1, 4099, 4100, 1048576, 1048577, 2 ** 32, top):
         for scans in (0, 1, 1024, 1025, 2 ** 32, top):
             for settings in (0, 1, 16, 17, 2 ** 32, top):
-                print("".join("%d " % x for x in [channels, scans, settings] + room(channels, scans, settings)))
-
-
-main()
+                told = [channels, scans, settings] + room(channels, scans, settings)
+                lines.append("".join("%d " % x for x in told) + "\n")
+    return "".join(lines).encode()

@@ -1,14 +1,15 @@
 #!/usr/bin/env python3
 """`vectors.py plan` writes what crates/plan_cases reads and what it must write: calls of the four planning functions, with the answers that
 planner.py gives. `vectors.py file` does the same for crates/file_cases: calls of the plan-file reader and writer, with the answers that
-planfile.py gives. The same bytes come out at each run.
+planfile.py gives. `vectors.py room` is for crates/room_cases with room.py, and `vectors.py bench` for crates/bench and crates/bench_cases with
+the texts of texts.py and the lines that bench.py gives. A folder named after that takes the place of crates/. The same bytes come out at each
+run.
 
 The form of the input stands in each crate's src/main.rt. A line of the output of plan_cases is the number that comes back (0: no refusal),
 the values (ceiling and multiplier: rate, distortion, peak; minmax: X before these; average: n and d before, the floor after; a refusal: what
-it carries), "p" and the plan buffer afterwards in hexadecimal, "s" and the scratch buffer likewise. Of a buffer over 64 bytes long "#", its
-length and a sum that every byte enters with its place; before these, of a plan buffer, the low digit of every byte, which for a setting is
-all of it. A line of file_cases is the number, the values (a read: the eleven fields in their order in the file; a write: the file's length;
-a refusal: what it carries), "b" and the lent buffer in hexadecimal; of a long one "#", length and sum."""
+it carries), "p" and every byte of the plan buffer afterwards, "s" and every byte of the scratch buffer (`shown` says how). A line of
+file_cases is the number, the values (a read: the eleven fields in their order in the file; a write: the file's length; a refusal: what it
+carries), "b" and every byte of the lent buffer."""
 
 import os
 import random
@@ -18,8 +19,11 @@ import sys
 # the import below is to leave no files beside the sources
 sys.dont_write_bytecode = True
 
+import bench
 import planfile
 import planner
+import room
+import texts
 from planner import AVERAGE, CEILING, FORBIDDEN, MINMAX, MOST_CELL, MOST_TERM, MULTIPLIER
 
 TOP = 2 ** 64 - 1
@@ -70,22 +74,37 @@ def pattern(size, start):
     return bytes((7 * i + start) % 251 + 1 for i in range(size))
 
 
-def checksum(content):
-    total = 1
-    for byte in content:
-        total = (total * 48271 + byte + 1) % PRIME
-    return total
+def shown(content, start):
+    """Every byte of a buffer that was filled with the pattern from `start`: a run of bytes that are as they were as "k", how many, and a
+    full stop; a run of zeros as "z", how many, and a full stop; any other byte by its two digits."""
+    text, i, before = [], 0, pattern(len(content), start)
+    while i < len(content):
+        for letter, same in (("k", before), ("z", bytes(len(content)))):
+            end = i
+            while end < len(content) and content[end] == same[end]:
+                end += 1
+            if i < end:
+                text.append("%s%d." % (letter, end - i))
+                i = end
+                break
+        else:
+            text.append("%02x" % content[i])
+            i += 1
+    return "".join(text) + " "
 
 
-def summed(content):
-    return "#%d %d " % (len(content), checksum(content))
+# the folder of the crates, or the one that the command names
+INTO = os.path.join(os.path.dirname(os.path.abspath(__file__)), "..", "..", "crates")
 
 
 def store(crate, stdin, stdout):
-    here = os.path.join(os.path.dirname(os.path.abspath(__file__)), "..", "..", "crates", crate)
+    """What a program reads, unless that is nothing, and what it must write."""
+    here = os.path.join(INTO, crate)
+    os.makedirs(here, exist_ok=True)
     for name, content in (("stdin", stdin), ("stdout", stdout)):
-        with open(os.path.join(here, name), "wb") as file:
-            file.write(content)
+        if content is not None:
+            with open(os.path.join(here, name), "wb") as file:
+                file.write(content)
 
 
 class Cells:
@@ -146,14 +165,7 @@ class Out:
         number, values, plan, scratch = answered
         self.numbers[number] = self.numbers.get(number, 0) + 1
         text = "".join("%d " % x for x in [number] + values)
-        if len(plan) <= 64:
-            text += "p" + plan.hex() + " "
-        else:
-            text += "p" + "".join("%x" % (byte % 16) for byte in plan) + " " + summed(plan)
-        if len(scratch) <= 64:
-            text += "s" + scratch.hex() + " "
-        else:
-            text += summed(scratch)
+        text += "p" + shown(plan, 13) + "s" + shown(scratch, 100)
         self.lines.append(text + "\n")
 
 
@@ -575,7 +587,7 @@ class FileOut:
         counts = self.numbers[call]
         counts[number] = counts.get(number, 0) + 1
         text = "".join("%d " % x for x in [number] + values)
-        text += "b" + lent.hex() + " " if len(lent) <= 64 else summed(lent)
+        text += "b" + shown(lent, 13)
         self.lines.append(text + "\n")
 
 
@@ -1054,9 +1066,36 @@ def file_cases():
         print(call + " by number: " + ", ".join("%d: %d" % item for item in sorted(counts.items())))
 
 
-TARGETS = {"plan": plan_cases, "file": file_cases}
+# The room question, and what bench writes
+
+
+def room_cases():
+    stdout = room.room_cases()
+    store("room_cases", None, stdout)
+    print("calls %d" % stdout.count(b"\n"))
+
+
+def bench_cases():
+    cases = texts.every_text()
+    stdin = b"".join(b"\1" + struct.pack("<IH", len(text), size) + text for text, size in cases) + b"\0"
+    answers = [bench.written(text) for text, _ in cases]
+    stdout = b"".join(answer + b"-\n" for answer in answers)
+    store("bench_cases", stdin, stdout)
+    text, _ = cases[0]
+    store("bench", text, bench.written(text))
+    kinds = {}
+    for answer in answers:
+        kind = answer.split(b"\n")[0] if b"/" not in answer else b"ave n/d"
+        kinds[kind.split(b" at ")[0]] = kinds.get(kind.split(b" at ")[0], 0) + 1
+    print("texts %d, stdin %d bytes, stdout %d bytes" % (len(cases), len(stdin), len(stdout)))
+    print("first lines: " + ", ".join("%s: %d" % (kind.decode(), count) for kind, count in sorted(kinds.items())))
+
+
+TARGETS = {"room": room_cases, "plan": plan_cases, "file": file_cases, "bench": bench_cases}
 
 if __name__ == "__main__":
-    if len(sys.argv) != 2 or sys.argv[1] not in TARGETS:
+    if len(sys.argv) not in (2, 3) or sys.argv[1] not in TARGETS:
         sys.exit(__doc__)
+    if len(sys.argv) == 3:
+        INTO = sys.argv[2]
     TARGETS[sys.argv[1]]()

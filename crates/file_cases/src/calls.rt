@@ -1,38 +1,36 @@
 // The two calls, each with a buffer filled anew, and with what it answers and what the buffer holds then written out.
 use crate::change::fields;
 use crate::change::runs;
-use crate::feed::byte;
 use crate::feed::place;
-use crate::show::end_line;
-use crate::show::put_buffer;
 use crate::show::put_read;
 use crate::show::put_written;
+use libc::STDOUT_FILENO;
 use planfile::fields::Fields;
 use planfile::read::read_plan;
 use planfile::write::write_plan;
+use shown::buffer::fill;
+use shown::buffer::put_buffer;
+use shown::input::byte;
+use shown::number::end_line;
 use weights::cost::Dist;
 use weights::cost::Rate;
 ghost use mathlib.Core.Path.{_≡_};
 ghost use lib.ListN.{length};
 
-fn pattern(i: usize) -> u8 {
-    ((i % 251 * 7 + 13) % 251 + 1) as u8
-}
+// Where the pattern of a buffer before a call starts.
+const FROM: usize = 13;
 
-// A buffer before a call: byte i is 1 and (7i + 13) modulo 251, never zero and mostly no setting, so that what is written or left shows.
-fn fill(buffer: &mut [u8]) {
-    let mut i = 0;
-    while i < buffer.len() {
-        buffer[i] = pattern(i);
-        i += 1;
-    }
+// The buffer as the call left it, and the end of the line.
+fn put_lent(lent: &[u8]) {
+    io::write_all(STDOUT_FILENO, b"b");
+    put_buffer(lent, FROM);
+    end_line();
 }
 
 fn asked(file: &[u8], lent: &mut [u8]) {
-    fill(lent);
+    fill(lent, FROM);
     put_read(read_plan(file, lent));
-    put_buffer(lent);
-    end_line();
+    put_lent(lent);
 }
 
 fn read(file: &mut [u8], lent: &mut [u8]) {
@@ -61,10 +59,9 @@ fn told(f: &[u64]) -> Fields
 }
 
 fn wanted(told: Fields, settings: &[u8], lent: &mut [u8]) {
-    fill(lent);
+    fill(lent, FROM);
     put_written(write_plan(told, settings, lent));
-    put_buffer(lent);
-    end_line();
+    put_lent(lent);
 }
 
 fn write(given: &mut [u8], kept: &mut [u64], lent: &mut [u8])

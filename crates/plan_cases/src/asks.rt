@@ -1,11 +1,11 @@
 // The four calls, each with what it answers written out.
 use crate::feed::narrow;
-use crate::show::put;
-use crate::show::put_refusal;
 use crate::show::put_totals;
 use planner::answer::AverageAnswer;
 use planner::answer::MinmaxAnswer;
 use planner::answer::PlanAnswer;
+use shown::number::put;
+use shown::number::put_refusal;
 
 // The numbers that every planning call takes.
 pub struct Case {

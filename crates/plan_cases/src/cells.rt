@@ -1,7 +1,7 @@
 // Filling a table, the rates first and then the distortions: from codes that follow in the input, a byte for each cell, or by a generator
 // whose four numbers follow, its seed, base, span and forbid.
-use crate::feed::word;
 use libc::STDIN_FILENO;
+use shown::input::word;
 ghost use Prim.Native.Nat.{_<_};
 
 // Codes from 240 on stand for the cells about which the rules say something of their own; a code below is the cell.

@@ -2,23 +2,27 @@
 use crate::asks::Case;
 use crate::asks::ask;
 use crate::cells::made;
-use crate::feed::word;
-use crate::show::end_line;
-use crate::show::put_plan;
-use crate::show::put_scratch;
-ghost use Prim.Native.Nat.{_≤_};
+use libc::STDOUT_FILENO;
+use shown::buffer::fill;
+use shown::buffer::put_buffer;
+use shown::input::least;
+use shown::input::word;
+use shown::number::end_line;
 
-fn pattern(i: usize, from: usize) -> u8 {
-    ((i % 251 * 7 + from % 251) % 251 + 1) as u8
+// Where the patterns of the two buffers before a call start.
+const PLAN_FROM: usize = 13;
+
+const SCRATCH_FROM: usize = 100;
+
+// A buffer as the call left it.
+fn put_plan(plan: &[u8]) {
+    io::write_all(STDOUT_FILENO, b"p");
+    put_buffer(plan, PLAN_FROM);
 }
 
-// A buffer before a call: byte i is 1 and (7i + from) modulo 251, never zero, so that whatever is zeroed, written or left shows.
-fn fill(buffer: &mut [u8], from: usize) {
-    let mut i = 0;
-    while i < buffer.len() {
-        buffer[i] = pattern(i, from);
-        i += 1;
-    }
+fn put_scratch(scratch: &[u8]) {
+    io::write_all(STDOUT_FILENO, b"s");
+    put_buffer(scratch, SCRATCH_FROM);
 }
 
 // One call.
@@ -26,8 +30,8 @@ fn one(case: Case, rates: &[u32], distortions: &[u32], plan: &mut [u8], scratch:
     let which = word();
     let limit = word();
     let other = word();
-    fill(plan, 13);
-    fill(scratch, 100);
+    fill(plan, PLAN_FROM);
+    fill(scratch, SCRATCH_FROM);
     ask(which, case, limit, other, rates, distortions, plan, scratch);
     put_plan(plan);
     put_scratch(scratch);
@@ -47,13 +51,6 @@ fn calls(
         one(case, rates, distortions, plan, scratch);
         left -= 1;
     }
-}
-
-fn least(x: u64, most: usize) -> usize
-    ensures { λ r. ⌜ r ≤ most ⌝ }
-{
-    let n = x as usize;
-    if n < most { n } else { most }
 }
 
 // One group; false where the input ends.

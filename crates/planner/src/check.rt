@@ -20,7 +20,7 @@ pub enum Checked {
 }
 
 // 3: law is not 0 or 1.
-fn law_outside(law: u64) -> bool
+pub fn law_outside(law: u64) -> bool
     ensures { λ r. ⌜ r ≡ law-out law ⌝ }
 {
     if law == 0 {

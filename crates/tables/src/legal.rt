@@ -56,14 +56,14 @@ fn legal_distortions(rates: &[u32], distortions: &[u32], end: usize) -> usize
     ensures before { λ r. ⌜ ((k : ℕ) → k < r → LegalBeside (getD (now (rates .entry)) k 0) (getD (now (distortions .entry)) k 0)) ⌝ }
     ensures there { λ r. ⌜ (r < end → LegalBeside (getD (now (rates .entry)) r 0) (getD (now (distortions .entry)) r 0) → ⊥) ⌝ }
 {
-    let mut i = 0;
-    while i < end {
-        if !legal_beside(rates[i], distortions[i]) {
-            return i;
+    let mut k = 0;
+    while k < end {
+        if !legal_beside(rates[k], distortions[k]) {
+            return k;
         }
-        i += 1;
+        k += 1;
     }
-    i
+    k
 }
 
 // An illegal distortion counts before the first illegal rate alone, so the second walk goes no further than the first did.

@@ -87,6 +87,8 @@ pub fn pass(
     let mut first_distortions = [0u32; 16];
     row_into(&mut first_rates, rates, 0, settings);
     row_into(&mut first_distortions, distortions, 0, settings);
+    // Nothing stands before scan 0: as under law 0, every setting may stand there.
+    let all = band::to(0, 0, settings);
     let best = pick(
         &mut room,
         &first_rates,
@@ -94,7 +96,7 @@ pub fn pass(
         rule,
         &keys,
         0,
-        settings,
+        all,
     );
     scratch[0] = best.first as u8;
     best.key.0 < NO_WAY

@@ -10,10 +10,10 @@ use Rattle.tables.proofs.legal.legal_distortions.Statement.{statement}
 use Rattle.tables.proofs.legal.legal_distortions.Tie as tie
 
 abbrev Inv-loop : tie.InvT-loop
-Inv-loop rates distortions end i₀ i = (i ≤ end) × ((k : ℕ) → k < i → LegalBeside (getD rates k 0) (getD distortions k 0))
+Inv-loop rates distortions end k₀ k = (k ≤ end) × ((j : ℕ) → j < k → LegalBeside (getD rates j 0) (getD distortions j 0))
 
 abbrev μ-loop : tie.MeasureT-loop
-μ-loop rates distortions end i₀ i = end - i
+μ-loop rates distortions end k₀ k = end - k
 
 loop-holds : tie.Need-loop-holds Inv-loop μ-loop
 loop-holds c = (omega arith, below-none _)
@@ -36,8 +36,8 @@ legal-beside-requires c κs = tt
 returns : tie.Need-returns Inv-loop μ-loop
 returns c = (omega arith, (c .before .before .before .before .before .loop .inv .1, λ h l. absurd (clash (c .if1 .taken) (c .before .legal-beside .ensures .1 l))))
 
-add-i : tie.Need-add-i Inv-loop μ-loop
-add-i c = omega arith
+add-k : tie.Need-add-k Inv-loop μ-loop
+add-k c = omega arith
 
 loop-less : tie.Need-loop-less Inv-loop μ-loop
 loop-less c = omega arith
@@ -61,7 +61,7 @@ legal-distortions-spec =
     shared-slice-read-legal-beside-2
     legal-beside-requires
     returns
-    add-i
+    add-k
     loop-less
     loop-again
     returns-2)

@@ -1,12 +1,12 @@
 -- `trellis::pass::pass` meets its contract: the scans after i are done, and scan 0 answers. Assumes nothing.
 use native.Mathlib.Omega.{arith}
 use borrow.Author.Needs.{needs}
-use mathlib.Core.Path.{_≡_, refl, _∙_}
+use mathlib.Core.Path.{_≡_, refl, sym, subst, _∙_}
 use Prim.Native.Nat.{ℕ, _+_, _-_, _*_, _≤_, _<_}
 use lib.ListN.{length, getD, length-set, getD-replicate}
 use lib.Seq.{getD-set-other}
 use Rattle.tables.proofs.CellLaws.{product-small, square-small, squares-small}
-use Rattle.trellis.specs.Step.{Sixteen}
+use Rattle.trellis.specs.Step.{Sixteen, Ready}
 use Rattle.trellis.proofs.SquareLaws.{part}
 use Rattle.trellis.proofs.PassLaws.{Done, done-none, done-more, ready, sixteen-zero, square-ends, some-room, pass-none, pass-some}
 use mathlib.Core.List.{[]}
@@ -152,49 +152,59 @@ row-into-requires-2 c κs =
     let s = c .before .before .before .before .before .before .before .before in
     (s .pre .0 .settings, (omega (arith, s .pre .0 .distortions-long), refl))
 
+to-requires : tie.Need-to-requires Inv-loop μ-loop
+to-requires c κs = let s = c .before .before .before .before .before .before .before .before .before in (omega (arith, s .pre .0 .some-settings), s .pre .0 .settings)
+
 pick-requires : tie.Need-pick-requires Inv-loop μ-loop
 pick-requires c κs =
-    let s = c .before .before .before .before .before .before .before .before .before .before .before .before .before in
+    let s = c .before .before .before .before .before .before .before .before .before .before .before .before .before .before in
     let a = s .args in
-    let l = c .before .before .before .before .before .before .before .before .before .loop in (
-      (omega arith, s .pre .0 .settings),
+    let l = c .before .before .before .before .before .before .before .before .before .before .loop in
+    let e : c .before .before .before .before .to .result ≡ a .settings = c .before .before .before .before .to .ensures in (
+      (omega (arith, e), omega (arith, e, s .pre .0 .settings)),
       (
         s .pre .1,
         (
-          ready (a .scans) (a .settings) (a .law) (a .rates .now) (a .distortions .now) (a .rule) (s .pre .0) (s .pre .1)
-              (c .before .before .before .before .before .before .row-into .last .0) (c .before .before .before .before .row-into2 .last .0) (l .keys) (λ q. 0 + q)
-              (c .before .before .before .before .before .before .row-into .ensures .1) (c .before .before .before .before .row-into2 .ensures .1) (l .inv .1 .1 .1 .1 .1 .1 .row .capped),
+          subst
+              (λ (k : ℕ).
+              Ready k (c .before .before .before .before .before .before .before .row-into .last .0) (c .before .before .before .before .before .row-into2 .last .0) (l .keys))
+              (sym e)
+              (ready (a .scans) (a .settings) (a .law) (a .rates .now) (a .distortions .now) (a .rule) (s .pre .0) (s .pre .1)
+              (c .before .before .before .before .before .before .before .row-into .last .0) (c .before .before .before .before .before .row-into2 .last .0) (l .keys) (λ q. 0 + q)
+              (c .before .before .before .before .before .before .before .row-into .ensures .1) (c .before .before .before .before .before .row-into2 .ensures .1) (l .inv .1 .1 .1 .1 .1 .1 .row .capped)),
           refl,
         ),
       ),
     )
 
 cast-scratch : tie.Need-cast-scratch Inv-loop μ-loop
-cast-scratch c = omega (arith, c .before .pick .ensures .1 .inside, c .before .before .before .before .before .before .before .before .before .before .before .before .before .before .before .pre .0 .settings)
+cast-scratch c = omega (arith, c .before .pick .ensures .1 .inside, c .before .before .before .before .before .before .before .before .before .before .before .before .before .before .before .before .pre .0 .settings)
 
 slice-write-scratch : tie.Need-slice-write-scratch Inv-loop μ-loop
 slice-write-scratch c =
-    let s = c .before .before .before .before .before .before .before .before .before .before .before .before .before .before .before in
-    omega (arith, some-room (s .pre .0), s .pre .0 .room, c .before .before .before .before .before .before .before .before .before .before .before .loop .inv .1 .0)
+    let s = c .before .before .before .before .before .before .before .before .before .before .before .before .before .before .before .before in
+    omega (arith, some-room (s .pre .0), s .pre .0 .room, c .before .before .before .before .before .before .before .before .before .before .before .before .loop .inv .1 .0)
 
 same-length : tie.Need-same-length Inv-loop μ-loop
-same-length c = simp length-set (c .before .before .before .before .before .before .before .before .before .before .before .before .loop .inv .1 .0)
+same-length c = simp length-set (c .before .before .before .before .before .before .before .before .before .before .before .before .before .loop .inv .1 .0)
 
 returns : tie.Need-returns Inv-loop μ-loop
 returns c =
-    let s = c .before .before .before .before .before .before .before .before .before .before .before .before .before .before .before .before in
+    let s = c .before .before .before .before .before .before .before .before .before .before .before .before .before .before .before .before .before in
     let a = s .args in
-    let l = c .before .before .before .before .before .before .before .before .before .before .before .before .loop in
-    let e : l .i ≡ 0 = omega (arith, c .before .before .before .before .before .before .before .before .before .before .before .loop-test .left) in
+    let l = c .before .before .before .before .before .before .before .before .before .before .before .before .before .loop in
+    let e : l .i ≡ 0 = omega (arith, c .before .before .before .before .before .before .before .before .before .before .before .before .loop-test .left) in
     let d = rw e at (l .inv .1 .1 .1 .1 .1 .1) in
     let room : 0 < length (l .scratch) = omega (arith, some-room (s .pre .0), s .pre .0 .room, l .inv .1 .0) in
-    let rs = c .before .before .before .before .before .before .before .before .before .row-into .last .0 in
-    let ds = c .before .before .before .before .before .before .before .row-into2 .last .0 in
+    let rs = c .before .before .before .before .before .before .before .before .before .before .row-into .last .0 in
+    let ds = c .before .before .before .before .before .before .before .before .row-into2 .last .0 in
+    let f : c .before .before .before .before .before .before .before .to .result ≡ a .settings = c .before .before .before .before .before .before .before .to .ensures in
+    let b = rw f at (c .before .before .pick .ensures .1) in
     record {
       none = pass-none (a .scans) (a .settings) (a .law) (a .rates .now) (a .distortions .now) (a .rule) (s .pre .0) (s .pre .1) rs ds d room
-          (c .before .before .before .before .before .before .before .before .before .row-into .ensures .1) (c .before .before .before .before .before .before .before .row-into2 .ensures .1) (c .before .before .pick .ensures .1);
+          (c .before .before .before .before .before .before .before .before .before .before .row-into .ensures .1) (c .before .before .before .before .before .before .before .before .row-into2 .ensures .1) b;
       some = pass-some (a .scans) (a .settings) (a .law) (a .rates .now) (a .distortions .now) (a .rule) (s .pre .0) (s .pre .1) rs ds d room
-          (c .before .before .before .before .before .before .before .before .before .row-into .ensures .1) (c .before .before .before .before .before .before .before .row-into2 .ensures .1) (c .before .before .pick .ensures .1);
+          (c .before .before .before .before .before .before .before .before .before .before .row-into .ensures .1) (c .before .before .before .before .before .before .before .before .row-into2 .ensures .1) b;
       long = simp length-set (l .inv .1 .0);
       rest = λ j h. getD-set-other (l .scratch) 0 j _ 0 (λ z. omega (arith, some-room (s .pre .0))) ∙ l .inv .1 .1 .0 j h;
     }
@@ -220,6 +230,7 @@ pass-spec =
     loop-again
     row-into-requires
     row-into-requires-2
+    to-requires
     pick-requires
     cast-scratch
     slice-write-scratch

@@ -1,0 +1,2 @@
+-- What is known of what was read.
+pub mod Got

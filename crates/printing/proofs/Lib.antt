@@ -1,0 +1,5 @@
+-- The laws of the lines.
+pub mod PutLaws
+pub mod DecimalLaws
+pub mod TextLaws
+pub mod Examples

@@ -1,0 +1,42 @@
+-- Text after text in a lent buffer. Assumes nothing.
+use mathlib.Core.Path.{_≡_, refl, sym, ap, _∙_}
+use mathlib.Core.List.{List, [], _∷_, _++_}
+use Prim.Native.Nat.{ℕ, suc, _+_, _<_}
+use native.Mathlib.Omega.{arith}
+use native.Mathlib.Numerals.{add-one}
+use lib.ListN.{length, getD, take, set, length-append}
+use lib.Seq.{sets, take-suc, length-take-le}
+use Rattle.printing.specs.Parts.{Put}
+
+-- what is stored right after l is stored with it
+pub sets-append : (d l m : List ℕ) (at to : ℕ) → to ≡ at + length l → sets (sets d at l) to m ≡ sets d at (l ++ m)
+sets-append d [] m at to e = let h : to ≡ at = omega (arith, e) in rw h refl
+sets-append d (a ∷ l) m at to e = sets-append (set d at a) l m (suc at) to (omega (arith, e))
+
+-- one byte more of a text that is copied
+pub copied-more : (d s : List ℕ) (at i : ℕ) → i < length s → set (sets d at (take i s)) (at + i) (getD s i 0) ≡ sets d at (take (i + 1) s)
+copied-more d s at i h =
+    sets-append d (take i s) (getD s i 0 ∷ []) at (at + i) (ap (λ (n : ℕ). at + n) (sym (length-take-le i s (omega arith))))
+    ∙ ap (sets d at) (sym (take-suc s i 0 h) ∙ ap (λ (n : ℕ). take n s) (sym (add-one i)))
+
+-- what `put` ensures
+pub put-so : {d o : List ℕ} {at r : ℕ} (t : List ℕ) → (r ≡ at + length t) × (o ≡ sets d at t) → Put d at t o r
+put-so t p = record { so = p .1; end = p .0 }
+
+-- and the other way
+pub so-put : {o t : List ℕ} {r : ℕ} (d : List ℕ) (at : ℕ) → Put d at t o r → (r ≡ at + length t) × (o ≡ sets d at t)
+so-put d at p = (p .end, p .so)
+
+-- a text, and another right behind it
+pub next : {d o o′ t u : List ℕ} {at r r′ : ℕ} → Put d at t o r → Put o r u o′ r′ → Put d at (t ++ u) o′ r′
+next {d} {o} {o′} {t} {u} {at} {r} {r′} p q = record {
+  so = q .so ∙ ap (λ (x : List ℕ). sets x r u) (p .so) ∙ sets-append d t u at r (p .end);
+  end = omega (arith, length-append t u, p .end, q .end);
+}
+
+-- the same text, written another way
+pub same-text : {d o t u : List ℕ} {at r : ℕ} → t ≡ u → Put d at t o r → Put d at u o r
+same-text {d} {o} {t} {u} {at} {r} e p = record {
+  so = p .so ∙ ap (sets d at) e;
+  end = p .end ∙ ap (λ (x : List ℕ). at + length x) e;
+}

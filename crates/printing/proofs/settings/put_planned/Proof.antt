@@ -1,0 +1,34 @@
+-- `printing::settings::put_planned` meets its contract: the word, and the settings behind it. Assumes nothing.
+use native.Mathlib.Omega.{arith}
+use Rattle.printing.specs.Lines.{spaced, plan}
+use Rattle.printing.proofs.PutLaws.{put-so, next}
+use borrow.Author.Needs.{needs}
+use Rattle.printing.proofs.settings.put_planned.Statement.{statement}
+use Rattle.printing.proofs.settings.put_planned.Tie as tie
+
+-- src/settings.rt:37:32
+slice-aggregate-put : tie.Need-slice-aggregate-put
+slice-aggregate-put c = search needs
+
+-- src/settings.rt:37:9
+put-requires : tie.Need-put-requires
+put-requires c κs = search needs
+
+-- src/settings.rt:38:5
+put-settings-requires : tie.Need-put-settings-requires
+put-settings-requires c κs = search needs
+
+-- src/settings.rt:32:1
+same-length : tie.Need-same-length
+same-length c = search needs
+
+-- src/settings.rt:32:1
+returns : tie.Need-returns
+returns c =
+    let numbers = c .before .before .put-settings .ensures in
+    let word = c .before .before .before .before .before .before in
+    (next (put-so (spaced plan) (word .put .ensures)) (numbers .0), omega arith)
+
+pub put-planned-spec : {M : Type 1} → statement M
+put-planned-spec =
+    tie.close (tie.spec slice-aggregate-put put-requires put-settings-requires same-length returns)

@@ -1,0 +1,3 @@
+-- The lines that bench writes, byte by byte.
+pub mod Lines
+pub mod Parts

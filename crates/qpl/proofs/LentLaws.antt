@@ -1,0 +1,55 @@
+-- A call over the front of a lent buffer is a call over the buffer. Assumes nothing.
+use mathlib.Core.Path.{_≡_, refl, sym, ap, _∙_}
+use mathlib.Core.Bool.{Bool}
+use mathlib.Core.Option.{Option, none, some}
+use mathlib.Core.List.{List, _++_, append-assoc}
+use Prim.Native.Nat.{ℕ, _≤_}
+use lib.ListN.{length, take, drop, take-append-drop}
+use lib.Seq.{drop-append-le}
+use Rattle.tables.specs.declared.refusal.Refusal.{Refusal}
+use Rattle.tables.specs.Refusals.{Reply}
+use Rattle.planfile.specs.Reading.{entries, fields-of, read-refusal, settings-after}
+use Rattle.planfile.specs.File.{entry-at}
+use Rattle.planfile.proofs.Accepted.{passed}
+use Rattle.planner.specs.Promise.{Promise, unsound, no-sequence, none-within, planned, handed}
+use Rattle.planner.specs.Checked.{asking}
+use Rattle.planner.proofs.CheckLaws.{sound-plan}
+
+-- a buffer whose front stays the same stays the same
+same-front : (room : ℕ) (l : List ℕ) {p : List ℕ} → p ≡ take room l → p ++ drop room l ≡ l
+same-front room l e = ap (λ (x : List ℕ). x ++ drop room l) e ∙ take-append-drop room l
+
+-- what is handed to the front is handed to the buffer
+pub handed-front : (room n : ℕ) (t l : List ℕ) {p : List ℕ} → n ≤ length (take room l) → p ≡ t ++ drop n (take room l) →
+    p ++ drop room l ≡ t ++ drop n l
+handed-front room n t l h e =
+    ap (λ (x : List ℕ). x ++ drop room l) e
+    ∙ append-assoc t (drop n (take room l)) (drop room l)
+    ∙ ap (λ (x : List ℕ). t ++ x) (sym (drop-append-le n (take room l) (drop room l) h) ∙ ap (drop n) (take-append-drop room l))
+
+pub promise-whole : {fourth : Bool} {N Q law S : ℕ} {R D : List ℕ} {within : List ℕ → Type 0} {Plan : List ℕ → List ℕ → Type 0}
+    {scratch p s : List ℕ} {reply : Reply} (room m : ℕ) (plan : List ℕ) →
+    Promise fourth (asking N Q law R D (length (take room plan)) S) within Plan (take room plan) scratch reply p s →
+    length (take room plan) ≡ m → Promise fourth (asking N Q law R D m S) within Plan plan scratch reply (p ++ drop room plan) s
+promise-whole {fourth} {N} {Q} {law} {S} {R} {D} {within} {Plan} {scratch} {p} {s} {reply} room m plan promise e = rw e at (whole promise)
+  where
+    whole : Promise fourth (asking N Q law R D (length (take room plan)) S) within Plan (take room plan) scratch reply p s →
+        Promise fourth (asking N Q law R D (length (take room plan)) S) within Plan plan scratch reply (p ++ drop room plan) s
+    whole (unsound {r = r} u e f g) = unsound {r = r} u e (same-front room plan f) g
+    whole (no-sequence o n e f g) = no-sequence o n e (same-front room plan f) g
+    whole (none-within o n e f g) = none-within o n e (same-front room plan f) g
+    whole (planned o t v q e f g) = planned o t v q e (handed-front room N t plan (sound-plan o) f) g
+
+-- the reader's settings
+pub read-whole : (file settings : List ℕ) (room m : ℕ) {p : List ℕ} → length (take room settings) ≡ m →
+    p ≡ settings-after (read-refusal file (length (take room settings))) file (take room settings) →
+    p ++ drop room settings ≡ settings-after (read-refusal file m) file settings
+read-whole file settings room m {p} e f =
+    of (read-refusal file (length (take room settings))) refl f
+    ∙ ap (λ (k : ℕ). settings-after (read-refusal file k) file settings) e
+  where
+    of : (o : Option Refusal) → read-refusal file (length (take room settings)) ≡ o → p ≡ settings-after o file (take room settings) →
+        p ++ drop room settings ≡ settings-after o file settings
+    of none g f = handed-front room (fields-of file .scans) (entries (entry-at file) 0 (fields-of file .scans)) settings
+        (passed file (length (take room settings)) g .enough) f
+    of (some r) g f = same-front room settings f

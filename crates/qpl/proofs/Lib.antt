@@ -1,0 +1,5 @@
+-- The laws of the surface.
+pub mod AnswerLaws
+pub mod CarryLaws
+pub mod LentLaws
+pub mod Settled

@@ -1,0 +1,165 @@
+-- What the surface settles: equal inputs give one word and one content of every buffer; an answer buffer that is too short is refused with 6
+-- in its place among the checks; and a word is never two refusals. Assumes nothing.
+use mathlib.Core.Path.{_≡_, refl, sym, ap, _∙_}
+use mathlib.Core.Bool.{Bool, true, false}
+use mathlib.Core.Option.{Option, none, some}
+use mathlib.Core.List.{List}
+use Prim.Native.Nat.{ℕ, _+_, _*_, _/_, _%_, _≤_, _<_, _^_}
+use native.Mathlib.Omega.{arith}
+use lib.Dec.{ltb}
+use lib.ListN.{length}
+use borrow.Author.Tests.{lt-ltb}
+use Rattle.tables.specs.declared.refusal.Refusal.{Refusal}
+use Rattle.tables.specs.declared.refusal.Refusal.the-variants as refusal
+use Rattle.tables.specs.Limits.{most-scans}
+use Rattle.tables.specs.Refusals.{Reply, refused, numberOf, carriedBy}
+use Rattle.tables.specs.Planning.{Asked, or-later, early-refusal, scans-out, settings-out, law-out, lengths-out, buffers-short}
+use Rattle.tables.proofs.Tests.{in-range}
+use Rattle.tables.proofs.RefusalLaws.{never-zero, refusal-of, refusal-back}
+use Rattle.planfile.specs.Rules.{found, when, or-else}
+use Rattle.planfile.specs.Reading.{length-out, bad-block, broken-field, fields-of, marks-of, read-refusal}
+use Rattle.planfile.proofs.CheckLaws.{never, neither}
+use Rattle.planfile.proofs.FieldLaws.{kept}
+use Rattle.planner.specs.Checked.{asking}
+use Rattle.planner.specs.Promise.{CeilingPromise, MultiplierPromise, MinmaxPromise, AveragePromise, plan-reply, minmax-reply, average-reply}
+use Rattle.planner.proofs.Settled.{ceiling-settled, multiplier-settled, minmax-settled, average-settled}
+use Rattle.qpl.specs.Surface.{word-of, Told, Tells, lent}
+use Rattle.qpl.proofs.AnswerLaws.{number-small, word-refused}
+
+-- ---- one word and one content of every buffer
+
+-- what is told of equal replies is the same
+told-once : {reply reply′ : Reply} (answer : List ℕ) {word word′ : ℕ} {t t′ : List ℕ} → reply ≡ reply′ → Told reply answer word t →
+    Told reply′ answer word′ t′ → (word ≡ word′) × (t ≡ t′)
+told-once answer e h g = let g′ = (rw (← e) at g) in (h .0 ∙ sym (g′ .0), h .1 ∙ sym (g′ .1))
+
+-- the words and the three lent buffers are the same
+abbrev pub AllSame : (word word′ : ℕ) (answer answer′ plan plan′ scratch scratch′ : List ℕ) → Type 0
+AllSame word word′ answer answer′ plan plan′ scratch scratch′ = (word ≡ word′) × (answer ≡ answer′) × (plan ≡ plan′) × (scratch ≡ scratch′)
+
+tells-once : {A : Type 0} (reply-of : A → Reply) {Kept Kept′ : A → Type 0} (answer : List ℕ) {word word′ : ℕ} {t t′ p p′ s s′ : List ℕ} →
+    ((r r′ : A) → Kept r → Kept′ r′ → (r ≡ r′) × (p ≡ p′) × (s ≡ s′)) → Tells reply-of Kept answer word t →
+    Tells reply-of Kept′ answer word′ t′ → AllSame word word′ t t′ p p′ s s′
+tells-once reply-of answer settled x y =
+    let u = settled (x .given) (y .given) (x .kept) (y .kept) in
+    let w = told-once answer (ap reply-of (u .0)) (x .told) (y .told) in
+    (w .0, w .1, u .1, u .2)
+
+-- what a call is asked
+abbrev pub asked-of : (need N Q law : ℕ) (rates distortions plan scratch answer : List ℕ) → Asked
+asked-of need N Q law rates distortions plan scratch answer =
+    asking N Q law rates distortions (lent need (length answer) (length plan)) (length scratch)
+
+-- the theorems, one for each call
+module _ (N Q law : ℕ) (rates distortions plan scratch answer : List ℕ) {word word′ : ℕ} {t t′ p p′ s s′ : List ℕ} where
+  pub ceiling-tells-once : (X : ℕ) →
+      Tells plan-reply (λ r. CeilingPromise (asked-of 24 N Q law rates distortions plan scratch answer) X plan scratch r p s) answer word t →
+      Tells plan-reply (λ r. CeilingPromise (asked-of 24 N Q law rates distortions plan scratch answer) X plan scratch r p′ s′) answer word′ t′ →
+      AllSame word word′ t t′ p p′ s s′
+  ceiling-tells-once X = tells-once plan-reply answer (λ r r′. ceiling-settled {X = X} r r′)
+
+  pub multiplier-tells-once : (n d : ℕ) →
+      Tells plan-reply (λ r. MultiplierPromise (asked-of 24 N Q law rates distortions plan scratch answer) n d plan scratch r p s) answer word t →
+      Tells plan-reply (λ r. MultiplierPromise (asked-of 24 N Q law rates distortions plan scratch answer) n d plan scratch r p′ s′) answer word′ t′ →
+      AllSame word word′ t t′ p p′ s s′
+  multiplier-tells-once n d = tells-once plan-reply answer (λ r r′. multiplier-settled n d r r′)
+
+  pub minmax-tells-once : (B : ℕ) →
+      Tells minmax-reply (λ r. MinmaxPromise (asked-of 32 N Q law rates distortions plan scratch answer) B plan scratch r p s) answer word t →
+      Tells minmax-reply (λ r. MinmaxPromise (asked-of 32 N Q law rates distortions plan scratch answer) B plan scratch r p′ s′) answer word′ t′ →
+      AllSame word word′ t t′ p p′ s s′
+  minmax-tells-once B = tells-once minmax-reply answer (λ r r′. minmax-settled {B = B} r r′)
+
+  pub average-tells-once : (B : ℕ) →
+      Tells average-reply (λ r. AveragePromise (asked-of 48 N Q law rates distortions plan scratch answer) B plan scratch r p s) answer word t →
+      Tells average-reply (λ r. AveragePromise (asked-of 48 N Q law rates distortions plan scratch answer) B plan scratch r p′ s′) answer word′ t′ →
+      AllSame word word′ t t′ p p′ s s′
+  average-tells-once B = tells-once average-reply answer (λ r r′. average-settled {B = B} r r′)
+
+-- ---- an answer buffer that is too short
+
+-- what follows a stage matters only where it passes
+after-stage : (o x y : Option Refusal) → (o ≡ none → x ≡ y) → or-else o x ≡ or-else o y
+after-stage none x y h = h refl
+after-stage (some r) x y h = refl
+
+-- The reader then gives the first of 11, 12, 13, and else 6: 14 is never reached, and nothing is read.
+pub short-answer-read : (file : List ℕ) (answer room : ℕ) → ltb answer 88 ≡ true →
+    read-refusal file (lent 88 answer room)
+    ≡ or-else (when (length-out (length file)) refusal.FileLength)
+    (or-else (found refusal.Block (bad-block file))
+    (or-else (broken-field file) (some refusal.Buffer)))
+unfolding read-refusal broken-field
+short-answer-read file answer room short = rw short
+    (ap (or-else (when (length-out (length file)) refusal.FileLength))
+    (ap (or-else (found refusal.Block (bad-block file)))
+    (after-stage (broken-field file) _ (some refusal.Buffer) (λ e.
+    let n = in-range {most = most-scans} {x = fields-of file .scans} (neither _ _ (kept (marks-of file) (fields-of file) e .scans) .0) in
+    rw (lt-ltb 0 (fields-of file .scans) (omega (arith, n .0))) refl))))
+
+-- A planning call then gives the first of 1 to 5, and else 6.
+pub short-answer-plan : (fourth : Bool) (N Q law : ℕ) (rates distortions : List ℕ) (need answer room scratch : ℕ) → ltb answer need ≡ true →
+    early-refusal fourth (asking N Q law rates distortions (lent need answer room) scratch)
+    ≡ or-later (scans-out N) refusal.Scans
+    (or-later (settings-out Q) refusal.Settings
+    (or-later (law-out law) refusal.StepLaw
+    (or-later fourth refusal.Multiplier
+    (or-later (lengths-out N Q rates distortions) refusal.Lengths (some refusal.Buffer)))))
+unfolding early-refusal
+short-answer-plan fourth N Q law rates distortions need answer room scratch short = rw short (of (scans-out N) (in-range {most = most-scans} {x = N}))
+  where
+    -- no room is short of a scan
+    of : (b : Bool) → (b ≡ false → (1 ≤ N) × (N ≤ most-scans)) →
+        or-later b refusal.Scans
+        (or-later (settings-out Q) refusal.Settings
+        (or-later (law-out law) refusal.StepLaw
+        (or-later fourth refusal.Multiplier
+        (or-later (lengths-out N Q rates distortions) refusal.Lengths (or-later (buffers-short N Q 0 scratch) refusal.Buffer none)))))
+        ≡ or-later b refusal.Scans
+        (or-later (settings-out Q) refusal.Settings
+        (or-later (law-out law) refusal.StepLaw
+        (or-later fourth refusal.Multiplier
+        (or-later (lengths-out N Q rates distortions) refusal.Lengths (some refusal.Buffer)))))
+    of true h = refl
+    of false h = rw (lt-ltb 0 N (omega (arith, h refl .0))) refl
+
+-- so it is refused
+pub short-answer-refused : (fourth : Bool) (N Q law : ℕ) (rates distortions : List ℕ) (need answer room scratch : ℕ) → ltb answer need ≡ true →
+    early-refusal fourth (asking N Q law rates distortions (lent need answer room) scratch) ≡ none → ⊥
+short-answer-refused fourth N Q law rates distortions need answer room scratch short e =
+    five (scans-out N) (settings-out Q) (law-out law) fourth (lengths-out N Q rates distortions)
+    (sym (short-answer-plan fourth N Q law rates distortions need answer room scratch short) ∙ e)
+  where
+    five : (b₁ b₂ b₃ b₄ b₅ : Bool) →
+        or-later b₁ refusal.Scans (or-later b₂ refusal.Settings (or-later b₃ refusal.StepLaw (or-later b₄ refusal.Multiplier
+        (or-later b₅ refusal.Lengths (some refusal.Buffer))))) ≡ none → ⊥
+    five true b₂ b₃ b₄ b₅ e = never (cc)
+    five false true b₃ b₄ b₅ e = never (cc)
+    five false false true b₄ b₅ e = never (cc)
+    five false false false true b₅ e = never (cc)
+    five false false false false true e = never (cc)
+    five false false false false false e = never (cc)
+
+-- ---- a word is one refusal
+
+-- Equal words are of equal refusals.
+pub word-settles : (r r′ : Refusal) → word-of (refused r) ≡ word-of (refused r′) → r ≡ r′
+word-settles r r′ e =
+    let h : numberOf r + 4294967296 * carriedBy r ≡ numberOf r′ + 4294967296 * carriedBy r′ = sym (word-refused r) ∙ e ∙ word-refused r′ in
+    let n : numberOf r ≡ numberOf r′ = omega (arith, h, number-small r, number-small r′) in
+    let k : carriedBy r ≡ carriedBy r′ = omega (arith, h, n) in
+    sym (refusal-back r)
+    ∙ ap (λ (x : ℕ). refusal-of x (carriedBy r)) n
+    ∙ ap (refusal-of (numberOf r′)) k
+    ∙ refusal-back r′
+
+-- No refusal's word is 0.
+pub word-not-zero : (r : Refusal) → word-of (refused r) ≡ 0 → ⊥
+word-not-zero r e = never-zero r (omega (arith, word-refused r, e))
+
+-- Its low 32 bits are the number and the rest is what is carried; where that is below 2 ^ 32, as in every word that goes back, it fits 64 bits.
+pub word-parts : (r : Refusal) → (word-of (refused r) % 4294967296 ≡ numberOf r) × (word-of (refused r) / 4294967296 ≡ carriedBy r)
+word-parts r = (omega (arith, word-refused r, number-small r), omega (arith, word-refused r, number-small r))
+
+pub word-fits : (r : Refusal) → carriedBy r < 2 ^ 32 → word-of (refused r) < 2 ^ 64
+word-fits r h = omega (arith, word-refused r, number-small r)

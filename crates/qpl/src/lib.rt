@@ -1,0 +1,219 @@
+// The C surface (include/qpl.h): the room question, the reader and the writer of plan files, and the four planning calls. Each function is
+// one call of the layer below. It gives back 0, or a refusal's number with what it carries in the high 32 bits; what it answers goes to a
+// lent buffer.
+mod tell;
+
+use crate::tell::lent;
+use crate::tell::put_room;
+use crate::tell::tell_average;
+use crate::tell::tell_fields;
+use crate::tell::tell_minmax;
+use crate::tell::tell_plan;
+use crate::tell::word;
+use planfile::fields::Fields;
+use planfile::read::read_plan;
+use planfile::write::WriteAnswer;
+use planfile::write::write_plan;
+use planner::average::average_plan;
+use planner::ceiling::ceiling_plan;
+use planner::minmax::minmax_plan;
+use planner::multiplier::multiplier_plan;
+use tables::refusal::Refusal;
+use tables::room::RoomAnswer;
+use tables::room::room_for;
+use weights::cost::Dist;
+use weights::cost::Rate;
+ghost use mathlib.Core.Path.{_≡_};
+ghost use lib.ListN.{length};
+ghost use Rattle.planner.specs.Checked.{asking};
+ghost use Rattle.planner.specs.Promise.{CeilingPromise, MultiplierPromise, MinmaxPromise, AveragePromise, «plan-reply», «minmax-reply», «average-reply»};
+ghost use Rattle.planfile.specs.Reading.{«read-of», «read-refusal», «settings-after»};
+ghost use Rattle.planfile.specs.Writing.{«write-of», «write-refusal», «file-after»};
+ghost use Rattle.qpl.specs.Surface.{Told, Tells, «word-of», «room-told», lent as Lent, «fields-told»};
+
+// cells, bytes, scratch
+#[no_mangle]
+pub extern "C" fn qpl_room(channels: u64, scans: u64, settings: u64, answer: &mut [u8]) -> u64
+    ensures { λ r. ⌜ Told (room-told channels scans settings (length (now (answer .entry)))) (now (answer .entry)) r (now (answer .exit)) ⌝ }
+{
+    let told = room_for(channels, scans, settings);
+    match told {
+        RoomAnswer::Given(room) => {
+            if answer.len() < 24 {
+                return word(Refusal::Buffer);
+            }
+            put_room(room, answer);
+            0
+        }
+        RoomAnswer::Refused(r) => word(r),
+    }
+}
+
+// scans, settings, law, kind, budget, n, d, rate, distortion, peak, floor
+#[no_mangle]
+pub extern "C" fn qpl_read(file: &[u8], settings: &mut [u8], answer: &mut [u8]) -> u64
+    ensures { λ r. ⌜ Told (read-of (now (file .entry)) (Lent 88 (length (now (answer .entry))) (length (now (settings .entry))))) (now (answer .entry)) r (now (answer .exit)) ⌝ }
+    ensures { λ _. ⌜ now (settings .exit) ≡ settings-after (read-refusal (now (file .entry)) (Lent 88 (length (now (answer .entry))) (length (now (settings .entry))))) (now (file .entry)) (now (settings .entry)) ⌝ }
+{
+    let room = lent(88, answer.len(), settings.len());
+    let told = read_plan(file, &mut settings[..room]);
+    tell_fields(told, answer)
+}
+
+// The length of the file follows from its scans, so nothing but 0 or a refusal goes back.
+#[no_mangle]
+pub extern "C" fn qpl_write(
+    scans: u64,
+    settings: u64,
+    law: u64,
+    kind: u64,
+    budget: u64,
+    n: u64,
+    d: u64,
+    rate: u64,
+    distortion: u64,
+    peak: u64,
+    floor: u64,
+    plan: &[u8],
+    file: &mut [u8],
+) -> u64
+    ensures { λ r. ⌜ r ≡ word-of (write-of (fields-told scans settings law kind budget n d rate distortion peak floor) (now (plan .entry)) (length (now (file .entry)))) ⌝ }
+    ensures { λ _. ⌜ now (file .exit) ≡ file-after (write-refusal (fields-told scans settings law kind budget n d rate distortion peak floor) (now (plan .entry)) (length (now (file .entry)))) (fields-told scans settings law kind budget n d rate distortion peak floor) (now (plan .entry)) (now (file .entry)) ⌝ }
+{
+    let fields = Fields {
+        scans,
+        settings,
+        law,
+        kind,
+        budget,
+        n,
+        d,
+        rate: Rate(rate),
+        distortion: Dist(distortion),
+        peak,
+        floor: Dist(floor),
+    };
+    let told = write_plan(fields, plan, file);
+    match told {
+        WriteAnswer::Written(_) => 0,
+        WriteAnswer::Refused(r) => word(r),
+    }
+}
+
+// rate, distortion, peak
+#[no_mangle]
+pub extern "C" fn qpl_ceiling(
+    scans: u64,
+    settings: u64,
+    law: u64,
+    ceiling: u32,
+    rates: &[u32],
+    distortions: &[u32],
+    plan: &mut [u8],
+    scratch: &mut [u8],
+    answer: &mut [u8],
+) -> u64
+    ensures { λ r. ⌜ Tells plan-reply (λ a. CeilingPromise (asking scans settings law (now (rates .entry)) (now (distortions .entry)) (Lent 24 (length (now (answer .entry))) (length (now (plan .entry)))) (length (now (scratch .entry)))) ceiling (now (plan .entry)) (now (scratch .entry)) a (now (plan .exit)) (now (scratch .exit))) (now (answer .entry)) r (now (answer .exit)) ⌝ }
+{
+    let room = lent(24, answer.len(), plan.len());
+    let told = ceiling_plan(
+        scans,
+        settings,
+        law,
+        ceiling,
+        rates,
+        distortions,
+        &mut plan[..room],
+        scratch,
+    );
+    tell_plan(told, answer)
+}
+
+// rate, distortion, peak
+#[no_mangle]
+pub extern "C" fn qpl_multiplier(
+    scans: u64,
+    settings: u64,
+    law: u64,
+    n: u64,
+    d: u64,
+    rates: &[u32],
+    distortions: &[u32],
+    plan: &mut [u8],
+    scratch: &mut [u8],
+    answer: &mut [u8],
+) -> u64
+    ensures { λ r. ⌜ Tells plan-reply (λ a. MultiplierPromise (asking scans settings law (now (rates .entry)) (now (distortions .entry)) (Lent 24 (length (now (answer .entry))) (length (now (plan .entry)))) (length (now (scratch .entry)))) n d (now (plan .entry)) (now (scratch .entry)) a (now (plan .exit)) (now (scratch .exit))) (now (answer .entry)) r (now (answer .exit)) ⌝ }
+{
+    let room = lent(24, answer.len(), plan.len());
+    let told = multiplier_plan(
+        scans,
+        settings,
+        law,
+        n,
+        d,
+        rates,
+        distortions,
+        &mut plan[..room],
+        scratch,
+    );
+    tell_plan(told, answer)
+}
+
+// X, rate, distortion, peak
+#[no_mangle]
+pub extern "C" fn qpl_minmax(
+    scans: u64,
+    settings: u64,
+    law: u64,
+    budget: u64,
+    rates: &[u32],
+    distortions: &[u32],
+    plan: &mut [u8],
+    scratch: &mut [u8],
+    answer: &mut [u8],
+) -> u64
+    ensures { λ r. ⌜ Tells minmax-reply (λ a. MinmaxPromise (asking scans settings law (now (rates .entry)) (now (distortions .entry)) (Lent 32 (length (now (answer .entry))) (length (now (plan .entry)))) (length (now (scratch .entry)))) budget (now (plan .entry)) (now (scratch .entry)) a (now (plan .exit)) (now (scratch .exit))) (now (answer .entry)) r (now (answer .exit)) ⌝ }
+{
+    let room = lent(32, answer.len(), plan.len());
+    let told = minmax_plan(
+        scans,
+        settings,
+        law,
+        budget,
+        rates,
+        distortions,
+        &mut plan[..room],
+        scratch,
+    );
+    tell_minmax(told, answer)
+}
+
+// n, d, rate, distortion, peak, floor
+#[no_mangle]
+pub extern "C" fn qpl_average(
+    scans: u64,
+    settings: u64,
+    law: u64,
+    budget: u64,
+    rates: &[u32],
+    distortions: &[u32],
+    plan: &mut [u8],
+    scratch: &mut [u8],
+    answer: &mut [u8],
+) -> u64
+    ensures { λ r. ⌜ Tells average-reply (λ a. AveragePromise (asking scans settings law (now (rates .entry)) (now (distortions .entry)) (Lent 48 (length (now (answer .entry))) (length (now (plan .entry)))) (length (now (scratch .entry)))) budget (now (plan .entry)) (now (scratch .entry)) a (now (plan .exit)) (now (scratch .exit))) (now (answer .entry)) r (now (answer .exit)) ⌝ }
+{
+    let room = lent(48, answer.len(), plan.len());
+    let told = average_plan(
+        scans,
+        settings,
+        law,
+        budget,
+        rates,
+        distortions,
+        &mut plan[..room],
+        scratch,
+    );
+    tell_average(told, answer)
+}

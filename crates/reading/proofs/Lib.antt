@@ -1,0 +1,4 @@
+-- The laws of texts that are read in pieces.
+pub mod WordLaws
+pub mod FeedLaws
+pub mod Text

@@ -1,0 +1,19 @@
+// Numbers and refusals, each number with a space after it.
+use libc::STDOUT_FILENO;
+use tables::refusal::Refusal;
+use tables::refusal::carried;
+use tables::refusal::number;
+
+pub fn put(x: u64) {
+    io::print_decimal(STDOUT_FILENO, x);
+    io::write_all(STDOUT_FILENO, b" ");
+}
+
+pub fn put_refusal(r: Refusal) {
+    put(number(r));
+    put(carried(r));
+}
+
+pub fn end_line() {
+    io::write_all(STDOUT_FILENO, b"\n");
+}

@@ -1,0 +1,174 @@
+-- What the numbers ask, by the tests of the code. Assumes nothing.
+use mathlib.Core.Path.{_≡_, refl, sym, ap, _∙_}
+use mathlib.Core.Bool.{Bool, true, false, cond, not, _||_, _&&_}
+use mathlib.Core.Option.{Option, none, some}
+use mathlib.Core.List.{List, [], _++_}
+use Prim.Native.Nat.{ℕ, _+_, _-_, _*_, _≤_, _<_, min}
+use native.Mathlib.Omega.{arith}
+use lib.Dec.{eqb, ltb}
+use lib.ListN.{length, take, drop, length-take, length-drop}
+use lib.Seq.{take-add, take-take, drop-at, drop-drop}
+use borrow.Author.Tests.{eqb-true, eqb-false, le-ltb, lt-ltb}
+use Rattle.tables.specs.declared.refusal.Refusal.{Refusal}
+use Rattle.tables.specs.declared.refusal.Refusal.the-variants.{Scans, Settings, StepLaw}
+use Rattle.tables.specs.Tables.{cells}
+use Rattle.tables.specs.Planning.{or-later, scans-out, settings-out, law-out}
+use Rattle.reading.specs.Fed.{as-words, taken-of}
+use Rattle.reading.specs.declared.State.{State}
+use Rattle.workbench.specs.Asked.{Asked, bad-input, out-of-range, too-large, to-plan, asked, most-cells, in-range}
+use Rattle.workbench.specs.Done.{settles}
+use Rattle.workbench.specs.Parts.{Fits, Heads, Asks, plan-asked, scans, settings, law, budget, rates, distortions, range-refusal}
+use Rattle.workbench.specs.declared.judge.Head.{Head}
+use Rattle.workbench.specs.declared.judge.Head.the-variants as head
+use Rattle.workbench.proofs.AskedLaws.{settled, rest-asked, by-words, four-given, too-few, rest-other, rest-cells, all-taken, not-taken}
+
+never : {A : Type 0} → _≡_ {A = ℕ} 0 1 → A
+never e = absurd (omega arith)
+
+-- a test of a number that was read, and what it answered
+pub tested : (f : ℕ → Bool) {x y : ℕ} {r b : Bool} → r ≡ f x → x ≡ y → r ≡ b → f y ≡ b
+tested f e x r = sym (ap f x) ∙ sym e ∙ r
+
+-- ---- the first four
+
+pub refuses-scans : (n : List ℕ) → scans-out (scans n) ≡ true → Heads n (head.Refused Scans)
+refuses-scans n a = rw a
+
+pub refuses-settings : (n : List ℕ) → scans-out (scans n) ≡ false → settings-out (settings n) ≡ true → Heads n (head.Refused Settings)
+refuses-settings n a b = rw (a, b)
+
+pub refuses-law : (n : List ℕ) → scans-out (scans n) ≡ false → settings-out (settings n) ≡ false → law-out (law n) ≡ true →
+    Heads n (head.Refused StepLaw)
+refuses-law n a b c = rw (a, b, c)
+
+pub passes : (n : List ℕ) → scans-out (scans n) ≡ false → settings-out (settings n) ≡ false → law-out (law n) ≡ false → range-refusal n ≡ none
+passes n a b c = rw (a, b, c)
+
+-- a table that is planned is not too large
+not-large : {n : List ℕ} {k : ℕ} → Fits n k → ltb most-cells (cells (scans n) (settings n)) ≡ false
+not-large {n} {k} f = let c = f .counted in let m = f .few in le-ltb most-cells (cells (scans n) (settings n)) (omega arith)
+
+-- whether they settle what is asked
+pub settles-refused : (n : List ℕ) (r : Refusal) → range-refusal n ≡ some r → settles n ≡ true
+settles-refused n r e = by-tests (scans-out (scans n)) (settings-out (settings n)) (law-out (law n)) _ e
+  where
+    by-tests : (p q s l : Bool) → or-later p Scans (or-later q Settings (or-later s StepLaw none)) ≡ some r → (p || q || s || l) ≡ true
+    by-tests true q s l e = refl
+    by-tests false true s l e = refl
+    by-tests false false true l e = refl
+    by-tests false false false l e = never (cc)
+
+settles-by-size : (n : List ℕ) → range-refusal n ≡ none → settles n ≡ ltb most-cells (cells (scans n) (settings n))
+settles-by-size n e = by-tests (scans-out (scans n)) (settings-out (settings n)) (law-out (law n)) _ e
+  where
+    by-tests : (p q s l : Bool) → or-later p Scans (or-later q Settings (or-later s StepLaw none)) ≡ none → (p || q || s || l) ≡ l
+    by-tests true q s l e = never (cc)
+    by-tests false true s l e = never (cc)
+    by-tests false false true l e = never (cc)
+    by-tests false false false l e = refl
+
+abbrev pub stops : Head → Bool
+stops (head.Refused r) = true
+stops head.TooLarge = true
+stops (head.Cells k) = false
+
+pub head-settles : (n : List ℕ) (h : Head) → Heads n h → settles n ≡ stops h
+head-settles n (head.Refused r) e = settles-refused n r e
+head-settles n head.TooLarge e = settles-by-size n (e .0) ∙ lt-ltb _ _ (e .1)
+head-settles n (head.Cells k) f =
+    settles-by-size n (f .in-range) ∙ not-large f
+
+-- ---- the rest
+
+-- what is asked beyond the first four
+abbrev left-asked : List ℕ → State → Asked
+left-asked n s = cond (s .more) bad-input (rest-asked n (as-words (drop 4 (taken-of n s)) ++ []))
+
+module _ (n : List ℕ) (s : State) (len : length n ≡ 8196) where
+  pub few-asked : s .taken < 4 → Asks n s bad-input
+  few-asked h text fed = by-more (s .more) refl
+    where
+      by-more : (b : Bool) → s .more ≡ b → asked text ≡ bad-input
+      by-more true e = not-taken text n s len fed e ∙ ap (λ (t : Bool). cond t bad-input (settled n bad-input)) (lt-ltb (s .taken) 4 h)
+      by-more false e = by-words text (all-taken text n s fed e .1) ∙ too-few n (s .taken) [] h (λ j. refl)
+
+  four-asked : 4 ≤ s .taken → Asks n s (settled n (left-asked n s))
+  four-asked h text fed = by-more (s .more) refl
+    where
+      by-more : (b : Bool) → s .more ≡ b →
+          asked text ≡ settled n (cond b bad-input (rest-asked n (as-words (drop 4 (taken-of n s)) ++ [])))
+      by-more true e = not-taken text n s len fed e ∙ ap (λ (t : Bool). cond t bad-input (settled n bad-input)) (le-ltb (s .taken) 4 h)
+      by-more false e = let t = all-taken text n s fed e in by-words text (t .1) ∙ four-given n (s .taken) [] h (t .0)
+
+  pub refused-asked : {r : Refusal} → 4 ≤ s .taken → range-refusal n ≡ some r → Asks n s (out-of-range r)
+  refused-asked h e text fed =
+      four-asked h text fed
+      ∙ ap (λ (o : Option Refusal). in-range o (cond (ltb most-cells (cells (scans n) (settings n))) too-large (left-asked n s))) e
+
+  pub large-asked : 4 ≤ s .taken → range-refusal n ≡ none → most-cells < cells (scans n) (settings n) → Asks n s too-large
+  large-asked h e g text fed =
+      four-asked h text fed
+      ∙ ap (λ (o : Option Refusal). in-range o (cond (ltb most-cells (cells (scans n) (settings n))) too-large (left-asked n s))) e
+      ∙ ap (λ (b : Bool). cond b too-large (left-asked n s)) (lt-ltb _ _ g)
+
+  -- in range and not too large: the rest decides
+  rest-decides : {k : ℕ} → 4 ≤ s .taken → Fits n k → Asks n s (left-asked n s)
+  rest-decides h f text fed =
+      four-asked h text fed
+      ∙ ap (λ (o : Option Refusal). in-range o (cond (ltb most-cells (cells (scans n) (settings n))) too-large (left-asked n s))) (f .in-range)
+      ∙ ap (λ (b : Bool). cond b too-large (left-asked n s)) (not-large f)
+
+  -- the numbers after the first four
+  after-four : (k : ℕ) → k ≤ most-cells → s .taken ≡ 4 + 2 * k → drop 4 (taken-of n s) ≡ take (2 * k) (drop 4 n)
+  after-four k h e =
+      ap (λ (t : ℕ). drop 4 (take t n)) e ∙ ap (λ (l : List ℕ). drop 4 l) (take-add 4 (2 * k) n)
+      ∙ drop-at (take 4 n) (take (2 * k) (drop 4 n)) 4 (let l : length (take 4 n) ≡ min 4 (length n) = length-take 4 n in omega arith)
+
+  two-tables : (k : ℕ) → k ≤ most-cells → drop k (take (2 * k) (drop 4 n)) ≡ distortions n k
+  two-tables k h =
+      let m = drop 4 n in
+      let d : length m ≡ length n - 4 = length-drop 4 n in
+      let twice : 2 * k ≡ k + k = omega arith in
+      let l : length (take k m) ≡ min k (length m) = length-take k m in
+      ap (λ (t : ℕ). drop k (take t m)) twice ∙ ap (λ (x : List ℕ). drop k x) (take-add k k m)
+      ∙ drop-at (take k m) (take k (drop k m)) k (omega arith)
+      ∙ ap (λ (x : List ℕ). take k x) (drop-drop k 4 n)
+
+  pub ready-asked : {k : ℕ} → 4 ≤ s .taken → Fits n k → (not (s .more) && eqb (s .taken) (4 + 2 * k)) ≡ true →
+      Asks n s (plan-asked n k)
+  ready-asked {k} h f e text fed =
+      let q = both (s .more) _ e in
+      let t = eqb-true _ _ (q .1) in
+      let c = f .counted in
+      let few = f .few in
+      let m = after-four k few t in
+      let cells-read = take (2 * k) (drop 4 n) in
+      let planned = to-plan (scans n) (settings n) (law n) (budget n) in
+      let long : length cells-read ≡ 2 * cells (scans n) (settings n) =
+      omega (arith, length-take (2 * k) (drop 4 n), length-drop 4 n) in
+      rest-decides h f text fed
+      ∙ ap (λ (b : Bool). cond b bad-input (rest-asked n (as-words (drop 4 (taken-of n s)) ++ []))) (q .0)
+      ∙ ap (λ (l : List ℕ). rest-asked n (as-words l ++ [])) m
+      ∙ rest-cells n cells-read long
+      ∙ ap (λ (j : ℕ). planned (take j cells-read) (drop j cells-read)) (sym c)
+      ∙ ap (λ (l : List ℕ). planned l (drop k cells-read)) (take-take k (2 * k) (drop 4 n) (omega arith))
+      ∙ ap (λ (l : List ℕ). planned (rates n k) l) (two-tables k few)
+    where
+      both : (a b : Bool) → (not a && b) ≡ true → (a ≡ false) × (b ≡ true)
+      both true b e = never (cc)
+      both false b e = (refl, e)
+
+  pub unread-asked : {k : ℕ} → 4 ≤ s .taken → Fits n k → (not (s .more) && eqb (s .taken) (4 + 2 * k)) ≡ false → Asks n s bad-input
+  unread-asked {k} h f e text fed = rest-decides h f text fed ∙ by-more (s .more) refl
+    where
+      by-more : (b : Bool) → s .more ≡ b → cond b bad-input (rest-asked n (as-words (drop 4 (taken-of n s)) ++ [])) ≡ bad-input
+      by-more true m = refl
+      by-more false m =
+          let other = eqb-false (s .taken) (4 + 2 * k) (rw m at e) in
+          let in-room = all-taken text n s fed m .0 in
+          rest-other n (drop 4 (taken-of n s))
+          (λ l.
+          let c = f .counted in
+          let d : length (drop 4 (taken-of n s)) ≡ min (s .taken) (length n) - 4 = length-drop 4 (taken-of n s) ∙ ap (λ (x : ℕ). x - 4) (length-take
+          (s .taken) n) in
+          other (omega arith))

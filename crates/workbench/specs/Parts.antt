@@ -1,0 +1,90 @@
+-- What the parts of bench's answer say. Assumes nothing.
+use mathlib.Core.Path.{_≡_}
+use mathlib.Core.Bool.{false}
+use mathlib.Core.Option.{Option, none, some}
+use mathlib.Core.List.{List, [], _∷_, _++_}
+use Prim.Native.Nat.{ℕ, _+_, _≤_, _<_}
+use lib.ListN.{length, getD, take, drop}
+use lib.Seq.{sets}
+use Rattle.tables.specs.declared.refusal.Refusal.{Refusal}
+use Rattle.tables.specs.Tables.{cells}
+use Rattle.tables.specs.Planning.{first-refusal, scans-out}
+use Rattle.reading.specs.Fed.{Fed}
+use Rattle.reading.specs.declared.State.{State}
+use Rattle.workbench.specs.Asked.{Asked, asked, bad-input, out-of-range, too-large, to-plan, range-checks, most-cells}
+use Rattle.workbench.specs.Written.{AveLine, MinmaxLine, WrittenFor}
+use Rattle.workbench.specs.declared.judge.Head.{Head}
+use Rattle.workbench.specs.declared.judge.Head.the-variants as head
+use Rattle.workbench.specs.declared.judge.Verdict.{Verdict}
+use Rattle.workbench.specs.declared.judge.Verdict.the-variants as verdict
+
+-- the first four numbers: "N Q law B"
+abbrev pub scans : List ℕ → ℕ
+scans n = getD n 0 0
+
+abbrev pub settings : List ℕ → ℕ
+settings n = getD n 1 0
+
+abbrev pub law : List ℕ → ℕ
+law n = getD n 2 0
+
+abbrev pub budget : List ℕ → ℕ
+budget n = getD n 3 0
+
+abbrev pub range-refusal : List ℕ → Option Refusal
+range-refusal n = first-refusal (range-checks (scans n) (settings n) (law n))
+
+-- the tables, each of this many cells, after the first four numbers
+abbrev pub rates : List ℕ → ℕ → List ℕ
+rates n k = take k (drop 4 n)
+
+abbrev pub distortions : List ℕ → ℕ → List ℕ
+distortions n k = take k (drop (4 + k) n)
+
+-- what the numbers ask, where they are those of two tables of k cells
+abbrev pub plan-asked : List ℕ → ℕ → Asked
+plan-asked n k = to-plan (scans n) (settings n) (law n) (budget n) (rates n k) (distortions n k)
+
+-- a table that is planned
+pub record Fits (n : List ℕ) (k : ℕ) : Type 0 where
+  pub in-range : range-refusal n ≡ none
+  pub scans-in : scans-out (scans n) ≡ false
+  pub counted : k ≡ cells (scans n) (settings n)
+  pub few : k ≤ most-cells
+
+-- what the first four numbers settle
+abbrev pub Heads : List ℕ → Head → Type 0
+Heads n (head.Refused r) = range-refusal n ≡ some r
+Heads n head.TooLarge = (range-refusal n ≡ none) × (most-cells < cells (scans n) (settings n))
+Heads n (head.Cells k) = Fits n k
+
+-- whatever text was read, this is asked; a separator has ended it
+abbrev pub Asks : List ℕ → State → Asked → Type 0
+Asks n s a = (text : List ℕ) → Fed (text ++ (32 ∷ [])) n s → asked text ≡ a
+
+abbrev pub Judged : List ℕ → State → Verdict → Type 0
+Judged n s verdict.BadInput = Asks n s bad-input
+Judged n s (verdict.OutOfRange r) = Asks n s (out-of-range r)
+Judged n s verdict.TooLarge = Asks n s too-large
+Judged n s (verdict.Ready k) = Fits n k × Asks n s (plan-asked n k)
+
+-- a line was put at `at` into what stood in the buffer before, r is the place after it, and it is no longer than this
+pub record Put (before : List ℕ) (at : ℕ) (line after : List ℕ) (r most : ℕ) : Type 0 where
+  pub so : after ≡ sets before at line
+  pub end : r ≡ at + length line
+  pub short : length line ≤ most
+
+-- the line that was put is the plan's
+pub record PutAve (N Q law B : ℕ) (rates distortions before : List ℕ) (at : ℕ) (after : List ℕ) (r : ℕ) : Type 0 where
+  pub line : List ℕ
+  pub right : AveLine N Q law B rates distortions line
+  pub put : Put before at line after r 4352
+
+pub record PutMinmax (N Q law B : ℕ) (rates distortions before : List ℕ) (at : ℕ) (after : List ℕ) (r : ℕ) : Type 0 where
+  pub line : List ℕ
+  pub right : MinmaxLine N Q law B rates distortions line
+  pub put : Put before at line after r 4352
+
+-- the first r bytes are what is written for this
+abbrev pub Holds : Asked → ℕ → List ℕ → Type 0
+Holds a r out = (r ≤ length out) × WrittenFor a (take r out)

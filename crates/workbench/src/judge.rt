@@ -1,0 +1,94 @@
+// What the numbers of a text ask.
+use planner::check::law_outside;
+use reading::State;
+use tables::cells::count;
+use tables::limits::MOST_SCANS;
+use tables::limits::MOST_SETTINGS;
+use tables::refusal::Refusal;
+use tables::room::outside;
+ghost use mathlib.Core.Path.{_≡_};
+ghost use mathlib.Core.Bool.{not, _&&_};
+ghost use Prim.Native.Nat.{_+_, _*_, _≤_, _<_, _^_};
+ghost use lib.Dec.{eqb};
+ghost use lib.ListN.{length};
+ghost use Rattle.workbench.specs.Parts.{Heads, Judged};
+
+// The cells of the largest table that is planned.
+const MOST_CELLS: u64 = 4096;
+
+// What the first four numbers settle: a refusal, or that the table is too large, or how many cells it has.
+pub enum Head {
+    Refused(Refusal),
+    TooLarge,
+    Cells(usize),
+}
+
+// What is asked; of a text that is to be planned, the cells of one table.
+pub enum Verdict {
+    BadInput,
+    OutOfRange(Refusal),
+    TooLarge,
+    Ready(usize),
+}
+
+pub fn wide(x: u32) -> u64
+    ensures { λ r. ⌜ (r ≡ x) × (r < 2 ^ 32) ⌝ }
+{
+    x as u64
+}
+
+// The checks of N, Q and law in their order, and then the size.
+pub fn first_four(numbers: &[u32]) -> Head
+    requires { ⌜ length (now numbers) ≡ 8196 ⌝ }
+    ensures { λ r. ⌜ Heads (now (numbers .entry)) r ⌝ }
+{
+    let scans = wide(numbers[0]);
+    let settings = wide(numbers[1]);
+    let law = wide(numbers[2]);
+    if outside(MOST_SCANS, scans) {
+        return Head::Refused(Refusal::Scans);
+    }
+    if outside(MOST_SETTINGS, settings) {
+        return Head::Refused(Refusal::Settings);
+    }
+    if law_outside(law) {
+        return Head::Refused(Refusal::StepLaw);
+    }
+    let cells = count(scans, settings);
+    if MOST_CELLS < cells {
+        return Head::TooLarge;
+    }
+    Head::Cells(cells as usize)
+}
+
+// Of a text that a separator has ended: the first four numbers, if there are so many, and then whether the rest are the cells.
+pub fn judge(s: State, numbers: &[u32]) -> Verdict
+    requires { ⌜ length (now numbers) ≡ 8196 ⌝ }
+    ensures { λ r. ⌜ Judged (now (numbers .entry)) s r ⌝ }
+{
+    if s.taken < 4 {
+        return Verdict::BadInput;
+    }
+    let head = first_four(numbers);
+    match head {
+        Head::Refused(r) => Verdict::OutOfRange(r),
+        Head::TooLarge => Verdict::TooLarge,
+        Head::Cells(cells) => {
+            if all_read(s, cells) {
+                return Verdict::Ready(cells);
+            }
+            Verdict::BadInput
+        }
+    }
+}
+
+// The cells are all there and nothing else: no word was left over, and the numbers are the first four and two tables.
+fn all_read(s: State, cells: usize) -> bool
+    requires { ⌜ cells ≤ 4096 ⌝ }
+    ensures { λ r. ⌜ r ≡ (not (s .more) && eqb (s .taken) (4 + 2 * cells)) ⌝ }
+{
+    if s.more {
+        return false;
+    }
+    s.taken == 4 + 2 * cells
+}

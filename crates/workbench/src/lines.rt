@@ -1,0 +1,129 @@
+// The lines that bench writes, into a lent buffer.
+use crate::judge::wide;
+use planner::answer::AverageAnswer;
+use planner::answer::MinmaxAnswer;
+use planner::average::average_plan;
+use planner::minmax::minmax_plan;
+use printing::line::ave_line;
+use printing::line::minmax_line;
+use tables::refusal::Refusal;
+ghost use mathlib.Core.Path.{_≡_};
+ghost use Prim.Native.Nat.{_+_, _*_, _≤_};
+ghost use lib.ListN.{length};
+ghost use Rattle.planner.specs.Promise.{«average-reply», «minmax-reply»};
+ghost use Rattle.printing.specs.Lines.{«ave-line», «minmax-line»};
+ghost use Rattle.workbench.specs.Asked.{«out-of-range»};
+ghost use Rattle.workbench.specs.Parts.{Fits, Put, PutAve, PutMinmax, Holds, «plan-asked»};
+
+// A line is at most 256 bytes beside the settings, and at most 4 for each setting: what follows it has its room.
+fn put_ave(out: &mut [u8], at: usize, answer: AverageAnswer, plan: &[u8]) -> usize
+    requires { ⌜ at + (256 + 4 * length (now plan)) ≤ length (now out) ⌝ }
+    ensures { λ r. ⌜ Put (now (out .entry)) at (ave-line (average-reply answer) (now (plan .entry))) (now (out .exit)) r
+        (256 + 4 * length (now (plan .entry))) ⌝ }
+{
+    ave_line(out, at, answer, plan)
+}
+
+fn put_minmax(out: &mut [u8], at: usize, answer: MinmaxAnswer, plan: &[u8]) -> usize
+    requires { ⌜ at + (256 + 4 * length (now plan)) ≤ length (now out) ⌝ }
+    ensures { λ r. ⌜ Put (now (out .entry)) at (minmax-line (minmax-reply answer) (now (plan .entry))) (now (out .exit)) r
+        (256 + 4 * length (now (plan .entry))) ⌝ }
+{
+    minmax_line(out, at, answer, plan)
+}
+
+// The first line of a table that is planned, with buffers of zeros that are large enough for every such table.
+fn average_at(
+    scans: u64,
+    settings: u64,
+    law: u64,
+    budget: u64,
+    rates: &[u32],
+    distortions: &[u32],
+    out: &mut [u8],
+    at: usize,
+) -> usize
+    requires { ⌜ (scans ≤ 1024) × (at + 4352 ≤ length (now out)) ⌝ }
+    ensures { λ r. ⌜ PutAve scans settings law budget (now (rates .entry)) (now (distortions .entry)) (now (out .entry)) at (now (out .exit)) r ⌝ }
+{
+    let mut plan = [0u8; 1024];
+    let mut scratch = [0u8; 4096];
+    let answer = average_plan(
+        scans,
+        settings,
+        law,
+        budget,
+        rates,
+        distortions,
+        &mut plan,
+        &mut scratch,
+    );
+    let planned = scans as usize;
+    put_ave(out, at, answer, &plan[..planned])
+}
+
+// And the second.
+fn minmax_at(
+    scans: u64,
+    settings: u64,
+    law: u64,
+    budget: u64,
+    rates: &[u32],
+    distortions: &[u32],
+    out: &mut [u8],
+    at: usize,
+) -> usize
+    requires { ⌜ (scans ≤ 1024) × (at + 4352 ≤ length (now out)) ⌝ }
+    ensures { λ r. ⌜ PutMinmax scans settings law budget (now (rates .entry)) (now (distortions .entry)) (now (out .entry)) at (now (out .exit)) r ⌝ }
+{
+    let mut plan = [0u8; 1024];
+    let mut scratch = [0u8; 4096];
+    let answer = minmax_plan(
+        scans,
+        settings,
+        law,
+        budget,
+        rates,
+        distortions,
+        &mut plan,
+        &mut scratch,
+    );
+    let planned = scans as usize;
+    put_minmax(out, at, answer, &plan[..planned])
+}
+
+// Both lines of a table that is planned: the first four numbers, and the cells of each table after them.
+pub fn planned(numbers: &[u32], cells: usize, out: &mut [u8]) -> usize
+    requires { ⌜ (length (now numbers) ≡ 8196) × Fits (now numbers) cells ⌝ }
+    requires { ⌜ 8704 ≤ length (now out) ⌝ }
+    ensures { λ r. ⌜ Holds (plan-asked (now (numbers .entry)) cells) r (now (out .exit)) ⌝ }
+{
+    let scans = wide(numbers[0]);
+    let settings = wide(numbers[1]);
+    let law = wide(numbers[2]);
+    let budget = wide(numbers[3]);
+    let middle = 4 + cells;
+    let end = middle + cells;
+    let rates = &numbers[4..middle];
+    let distortions = &numbers[middle..end];
+    let second = average_at(scans, settings, law, budget, rates, distortions, out, 0);
+    minmax_at(
+        scans,
+        settings,
+        law,
+        budget,
+        rates,
+        distortions,
+        out,
+        second,
+    )
+}
+
+// The refusal on both lines.
+pub fn refused(out: &mut [u8], r: Refusal) -> usize
+    requires { ⌜ 8704 ≤ length (now out) ⌝ }
+    ensures { λ k. ⌜ Holds (out-of-range r) k (now (out .exit)) ⌝ }
+{
+    let second = put_ave(out, 0, AverageAnswer::Refused(r), b"");
+    put_minmax(out, second, MinmaxAnswer::Refused(r), b"")
+}

@@ -1,0 +1,210 @@
+/* The worked tables of document 01 ("Bench tables", the "Others" too) and its room figures, through the archive: every value, every byte
+ * of every buffer, and guard bytes on both sides of each. What is expected is written out by hand from the document. */
+#include "lent.h"
+#include "qpl.h"
+
+#include <stdio.h>
+#include <string.h>
+
+static int passed, failed;
+
+static void expect(const char *what, int good) {
+    if (good) {
+        passed++;
+    } else {
+        failed++;
+        printf("FAILED: %s\n", what);
+    }
+}
+
+enum call { CEILING, MULTIPLIER, MINMAX, AVERAGE };
+
+typedef struct {
+    uint64_t scans, settings, law;
+    const uint32_t *rates, *distortions;
+    size_t cells;
+} table;
+
+/* A call, what it must give back, and on 0 the values and the settings that it must answer. */
+typedef struct {
+    const char *what;
+    const table *t;
+    enum call which;
+    uint64_t limit, d;
+    uint32_t refusal, carried;
+    size_t count;
+    uint64_t values[6];
+    uint8_t plan[4];
+} expected;
+
+static uint64_t ask(const expected *e, lent *plan, lent *scratch, lent *answer) {
+    const table *t = e->t;
+    switch (e->which) {
+    case CEILING:
+        return qpl_ceiling(t->scans, t->settings, t->law, (uint32_t)e->limit, t->rates, t->cells, t->distortions, t->cells, plan->bytes,
+                           plan->length, scratch->bytes, scratch->length, answer->bytes, answer->length);
+    case MULTIPLIER:
+        return qpl_multiplier(t->scans, t->settings, t->law, e->limit, e->d, t->rates, t->cells, t->distortions, t->cells, plan->bytes,
+                              plan->length, scratch->bytes, scratch->length, answer->bytes, answer->length);
+    case MINMAX:
+        return qpl_minmax(t->scans, t->settings, t->law, e->limit, t->rates, t->cells, t->distortions, t->cells, plan->bytes, plan->length,
+                          scratch->bytes, scratch->length, answer->bytes, answer->length);
+    default:
+        return qpl_average(t->scans, t->settings, t->law, e->limit, t->rates, t->cells, t->distortions, t->cells, plan->bytes,
+                           plan->length, scratch->bytes, scratch->length, answer->bytes, answer->length);
+    }
+}
+
+/* Every byte: as it was from `kept` on; before that the given bytes, or zeros where none are given. */
+static int holds(const lent *l, size_t kept, const uint8_t *given, unsigned from) {
+    size_t i;
+    if (!lent_guarded(l)) return 0;
+    for (i = 0; i < l->length; i++) {
+        uint8_t right = i >= kept ? lent_pattern(i, from) : given == NULL ? 0 : given[i];
+        if (l->bytes[i] != right) return 0;
+    }
+    return 1;
+}
+
+static const size_t answer_lengths[] = {QPL_CEILING_ANSWER, QPL_MULTIPLIER_ANSWER, QPL_MINMAX_ANSWER, QPL_AVERAGE_ANSWER};
+
+/* With buffers that are longer than needed by `more` bytes. */
+static int as_expected(const expected *e, size_t more) {
+    size_t need = answer_lengths[e->which], k;
+    size_t cells = (size_t)(e->t->scans * e->t->settings);
+    lent plan = lend((size_t)e->t->scans + more, 13), scratch = lend(cells + more, 100), answer = lend(need + more, 50);
+    uint64_t given = ask(e, &plan, &scratch, &answer);
+    int good = qpl_refusal(given) == e->refusal && qpl_carried(given) == e->carried;
+    uint8_t values[48];
+    for (k = 0; k < 8 * e->count; k++) values[k] = (uint8_t)(e->values[k / 8] >> 8 * (k % 8));
+    good = good && holds(&plan, e->refusal == 0 ? (size_t)e->t->scans : 0, e->plan, 13);
+    good = good && holds(&scratch, e->refusal == 0 || e->refusal == 8 || e->refusal == 9 ? cells : 0, NULL, 100);
+    good = good && holds(&answer, e->refusal == 0 ? need : 0, values, 50);
+    good = good && (e->refusal != 0 || 8 * e->count == need);
+    give_back(&plan);
+    give_back(&scratch);
+    give_back(&answer);
+    return good;
+}
+
+#define F QPL_FORBIDDEN
+static const uint32_t t_rates[] = {10, 4, 8, 3, 9, 5}, t_distortions[] = {2, 7, 3, 6, 4, 10};
+static const uint32_t u_rates[] = {9, 6, 2}, u_distortions[] = {0, 8, 10};
+static const uint32_t blocked_rates[] = {10, 4, F, F, F, F};
+static const uint32_t zero[] = {0}, top[] = {1048575}, over[] = {1048576};
+/* N 2, Q 4, law 1: one way alone is open, 0 then 2; 3 then 1; 0 then 3. */
+static const uint32_t zero_two[] = {1, F, F, F, F, F, 1, F, F, F, F, F, F, F, F, F, F, F, F, F};
+static const uint32_t three_one[] = {F, F, F, 1, F, F, F, F, F, F, F, F, F, F, F, F, F, 1, F, F};
+static const uint32_t zero_three[] = {1, F, F, F, F, F, F, 1, F, F, F, F, F, F, F, F, F, F, F, F};
+static const uint32_t zeros[20] = {0};
+
+static const table T = {2, 2, 0, t_rates, t_distortions, 6};
+static const table U = {1, 3, 0, u_rates, u_distortions, 3};
+static const table BLOCKED = {2, 2, 0, blocked_rates, t_distortions, 6};
+static const table TOP = {1, 1, 0, top, zero, 1}, OVER = {1, 1, 0, over, zero, 1}, SINGLE = {1, 1, 0, zero, zero, 1};
+static const table ZERO_TWO = {2, 4, 1, zero_two, zeros, 20}, THREE_ONE = {2, 4, 1, three_one, zeros, 20};
+static const table ZERO_THREE = {2, 4, 1, zero_three, zeros, 20};
+
+static const expected all[] = {
+    {"P1 T, average 18", &T, AVERAGE, 18, 0, 0, 0, 6, {0, 1, 18, 5, 3, 5}, {0, 0}},
+    {"P2 T, average 17", &T, AVERAGE, 17, 0, 0, 0, 6, {3, 5, 13, 8, 6, 6}, {0, 1}},
+    {"P3 T, average 13", &T, AVERAGE, 13, 0, 0, 0, 6, {3, 5, 13, 8, 6, 8}, {0, 1}},
+    {"P4 T, average 12", &T, AVERAGE, 12, 0, 0, 0, 6, {9, 4, 9, 17, 10, 11}, {1, 1}},
+    {"P5 T, average 9", &T, AVERAGE, 9, 0, 0, 0, 6, {9, 4, 9, 17, 10, 17}, {1, 1}},
+    {"P6 T, average 8", &T, AVERAGE, 8, 0, 9, 0, 0, {0}, {0}},
+    {"P7 U, average 7", &U, AVERAGE, 7, 0, 0, 0, 6, {10, 7, 2, 10, 10, 3}, {2}},
+    {"P8 T, ceiling 7", &T, CEILING, 7, 0, 0, 0, 3, {13, 8, 6}, {0, 1}},
+    {"P9 T, ceiling 5", &T, CEILING, 5, 0, 0, 0, 3, {18, 5, 3}, {0, 0}},
+    {"P10 T, ceiling 2", &T, CEILING, 2, 0, 9, 0, 0, {0}, {0}},
+    {"P11 T, minmax 17", &T, MINMAX, 17, 0, 0, 0, 4, {6, 13, 8, 6}, {0, 1}},
+    {"P12 T, minmax 12", &T, MINMAX, 12, 0, 0, 0, 4, {10, 9, 17, 10}, {1, 1}},
+    {"P13 T, multiplier 9/4", &T, MULTIPLIER, 9, 4, 0, 0, 3, {9, 17, 10}, {1, 1}},
+    {"P14 T, multiplier 3/5", &T, MULTIPLIER, 3, 5, 0, 0, 3, {13, 8, 6}, {0, 1}},
+    {"T with scan 1 forbidden, average 0", &BLOCKED, AVERAGE, 0, 0, 8, 0, 0, {0}, {0}},
+    {"T with scan 1 forbidden, average 2^64 - 1", &BLOCKED, AVERAGE, UINT64_MAX, 0, 8, 0, 0, {0}, {0}},
+    {"T with scan 1 forbidden, minmax 17", &BLOCKED, MINMAX, 17, 0, 8, 0, 0, {0}, {0}},
+    {"T with scan 1 forbidden, ceiling 2", &BLOCKED, CEILING, 2, 0, 8, 0, 0, {0}, {0}},
+    {"T with scan 1 forbidden, multiplier 3/5", &BLOCKED, MULTIPLIER, 3, 5, 8, 0, 0, {0}, {0}},
+    {"a rate of 1,048,575 passes", &TOP, AVERAGE, 1048575, 0, 0, 0, 6, {0, 1, 1048575, 0, 0, 0}, {0}},
+    {"a rate of 1,048,576 gives 7", &OVER, AVERAGE, 1048576, 0, 7, 0, 0, {0}, {0}},
+    {"law 1: 0 then 2", &ZERO_TWO, CEILING, 0, 0, 0, 0, 3, {2, 0, 0}, {0, 2}},
+    {"law 1: 3 then 1", &THREE_ONE, CEILING, 0, 0, 0, 0, 3, {2, 0, 0}, {3, 1}},
+    {"law 1: 0 then 3", &ZERO_THREE, CEILING, 0, 0, 8, 0, 0, {0}, {0}},
+    {"N 1, Q 1, both cells 0, average 0", &SINGLE, AVERAGE, 0, 0, 0, 0, 6, {0, 1, 0, 0, 0, 0}, {0}},
+    {"T, multiplier 0/0", &T, MULTIPLIER, 0, 0, 4, 0, 0, {0}, {0}},
+};
+
+static int room_is(uint64_t channels, uint64_t scans, uint64_t settings, uint64_t cells, uint64_t bytes, uint64_t scratch) {
+    lent answer = lend(QPL_ROOM_ANSWER, 50);
+    uint64_t given = qpl_room(channels, scans, settings, answer.bytes, answer.length);
+    int good = given == 0 && lent_guarded(&answer) && qpl_value(answer.bytes, 0) == cells && qpl_value(answer.bytes, 1) == bytes &&
+               qpl_value(answer.bytes, 2) == scratch;
+    give_back(&answer);
+    return good;
+}
+
+static int room_refused(uint64_t channels, uint64_t scans, uint64_t settings, size_t length, uint64_t number) {
+    lent answer = lend(length, 50);
+    int good = qpl_room(channels, scans, settings, answer.bytes, answer.length) == number && holds(&answer, 0, NULL, 50);
+    give_back(&answer);
+    return good;
+}
+
+/* T's average plan for 17 to a file and back, with buffers of exactly the needed size; and a changed byte. */
+static void files(void) {
+    static const uint8_t settings[] = {0, 1};
+    static const uint64_t fields[] = {2, 2, 0, 0, 17, 3, 5, 13, 8, 6, 6};
+    lent file = lend(1024, 13), plan = lend(2, 13), answer = lend(QPL_READ_ANSWER, 50);
+    int k, good = 1;
+    expect("T, average 17: written", qpl_write(2, 2, 0, 0, 17, 3, 5, 13, 8, 6, 6, settings, 2, file.bytes, file.length) == 0 &&
+                                         lent_guarded(&file) && memcmp(file.bytes + 4, "QPL1", 4) == 0 && file.bytes[516] == 0x10);
+    expect("T, average 17: read", qpl_read(file.bytes, file.length, plan.bytes, plan.length, answer.bytes, answer.length) == 0 &&
+                                      holds(&plan, 2, settings, 13) && lent_guarded(&answer));
+    for (k = 0; k < 11; k++) good = good && qpl_value(answer.bytes, (size_t)k) == fields[k];
+    expect("T, average 17: the fields that were written", good);
+    give_back(&plan);
+    give_back(&answer);
+    plan = lend(2, 13);
+    answer = lend(QPL_READ_ANSWER, 50);
+    file.bytes[600]++;
+    expect("a changed byte of block 1: refused 12, at 1",
+           qpl_read(file.bytes, file.length, plan.bytes, plan.length, answer.bytes, answer.length) == (12 | (uint64_t)1 << 32) &&
+               holds(&plan, 0, NULL, 13) && holds(&answer, 0, NULL, 50));
+    file.bytes[600]--;
+    expect("a plan buffer of one byte: refused 6",
+           qpl_read(file.bytes, file.length, plan.bytes, 1, answer.bytes, answer.length) == 6 && holds(&plan, 0, NULL, 13));
+    expect("an answer buffer of 87 bytes: refused 6",
+           qpl_read(file.bytes, file.length, plan.bytes, plan.length, answer.bytes, 87) == 6 && holds(&plan, 0, NULL, 13));
+    expect("no file: refused 11", qpl_read(NULL, 0, plan.bytes, plan.length, answer.bytes, answer.length) == 11);
+    give_back(&file);
+    file = lend(1024, 13);
+    expect("a rate above B: refused 13, at 32",
+           qpl_write(2, 2, 0, 0, 12, 3, 5, 13, 8, 6, 6, settings, 2, file.bytes, file.length) == (13 | (uint64_t)32 << 32) &&
+               holds(&file, 0, NULL, 13));
+    expect("a file buffer of 1,023 bytes: refused 6",
+           qpl_write(2, 2, 0, 0, 17, 3, 5, 13, 8, 6, 6, settings, 2, file.bytes, 1023) == 6 && holds(&file, 0, NULL, 13));
+    give_back(&file);
+    give_back(&plan);
+    give_back(&answer);
+}
+
+int main(void) {
+    size_t k;
+    for (k = 0; k < sizeof all / sizeof all[0]; k++) {
+        expect(all[k].what, as_expected(&all[k], 0));
+        expect(all[k].what, as_expected(&all[k], 9));
+    }
+    expect("4,099 channels", room_is(4099, 1024, 16, 261904, UINT64_C(4294177984), 16384));
+    expect("4,100 channels", room_is(4100, 1024, 16, 261904, UINT64_C(4295225600), 16384));
+    expect("1,048,576 channels", room_is(1048576, 1024, 16, 261904, UINT64_C(1098504994816), 16384));
+    expect("no channels", room_refused(0, 0, 0, 24, 10) && room_refused(1048577, 1, 1, 24, 10));
+    expect("no scans", room_refused(1, 0, 0, 24, 1) && room_refused(1, 1025, 1, 24, 1));
+    expect("no settings", room_refused(1, 1, 0, 24, 2) && room_refused(1, 1, 17, 24, 2));
+    expect("2^32 + 1 channels, scans, settings", room_refused((UINT64_C(1) << 32) + 1, 1, 1, 24, 10) &&
+                                                     room_refused(1, (UINT64_C(1) << 32) + 1, 1, 24, 1) &&
+                                                     room_refused(1, 1, (UINT64_C(1) << 32) + 1, 24, 2));
+    expect("an answer buffer of 23 bytes", room_refused(1, 1, 1, 23, 6) && room_refused(1, 1, 1, 0, 6) && room_refused(1, 1, 0, 23, 2));
+    files();
+    printf("%d passed, %d failed\n", passed, failed);
+    return failed != 0;
+}

@@ -1,0 +1,162 @@
+/* The planner as it would be written by hand in C, for comparison: the same passes, backward over the scans with two keys for each setting
+ * before, and the same searches over them. REFERENCE names the file's functions, LOOP is the inner loop over the settings of a row.
+ * It checks nothing but what it is told to: `checked` asks for the walk that finds an illegal cell. */
+#include <stddef.h>
+#include <stdint.h>
+#include <string.h>
+
+#define NONE UINT64_MAX
+#define FORBIDDEN 4294967295u
+#define MOST_CELL 1048575u
+
+typedef struct {
+    const uint32_t *rates, *distortions;
+    size_t scans, settings, law;
+    uint8_t *scratch;
+} job;
+
+typedef struct {
+    uint64_t rate, distortion, peak;
+} sums;
+
+/* A cell's first and second key: cost and rate at a multiplier, rate and distortion under a ceiling. */
+typedef struct {
+    uint64_t n, d;
+    uint32_t ceiling;
+    int thrifty;
+} rule;
+
+#define OPEN(r, x) ((r) != FORBIDDEN && (x) <= w->ceiling)
+#define FIRST(r, x) (w->thrifty ? (uint64_t)(r) : w->d * (x) + w->n * (r))
+#define SECOND(r, x) (w->thrifty ? (uint64_t)(x) : (uint64_t)(r))
+
+/* The straightforward loop: each candidate against the best so far. */
+#define STRAIGHTFORWARD                                                                                                                     \
+    for (size_t q = from; q < to; q++) {                                                                                                    \
+        if (!OPEN(r[q], x[q]) || first[q] == NONE) continue;                                                                                \
+        uint64_t a = FIRST(r[q], x[q]) + first[q], b = SECOND(r[q], x[q]) + second[q];                                                      \
+        if (a < best || (a == best && b < tie)) best = a, tie = b, at = (uint8_t)q;                                                         \
+    }
+
+/* Least key first, then ties. */
+#define LEAST_FIRST                                                                                                                         \
+    uint64_t keys[16];                                                                                                                      \
+    for (size_t q = from; q < to; q++) {                                                                                                    \
+        uint64_t a = OPEN(r[q], x[q]) && first[q] != NONE ? FIRST(r[q], x[q]) + first[q] : NONE;                                            \
+        keys[q] = a;                                                                                                                        \
+        best = a < best ? a : best;                                                                                                         \
+    }                                                                                                                                       \
+    if (best != NONE)                                                                                                                       \
+        for (size_t q = from; q < to; q++)                                                                                                  \
+            if (keys[q] == best) {                                                                                                          \
+                uint64_t b = SECOND(r[q], x[q]) + second[q];                                                                                \
+                if (b < tie) tie = b, at = (uint8_t)q;                                                                                      \
+            }
+
+#define REFERENCE(name, LOOP)                                                                                                               \
+    static inline int name##_pass_of(const job *j, const rule *w) {                                                                         \
+        size_t k = j->settings;                                                                                                             \
+        uint64_t first[16] = {0}, second[16] = {0}, next[16], next_second[16];                                                              \
+        for (size_t i = j->scans - 1;; i--) {                                                                                               \
+            size_t rows = i ? k : 1, start = i ? k + (i - 1) * k * k : 0;                                                                   \
+            for (size_t p = 0; p < rows; p++) {                                                                                             \
+                const uint32_t *r = j->rates + start + p * k, *x = j->distortions + start + p * k;                                          \
+                size_t from = i && j->law && p > 2 ? p - 2 : 0, to = i && j->law && p + 3 < k ? p + 3 : k;                                  \
+                uint64_t best = NONE, tie = NONE;                                                                                           \
+                uint8_t at = 0;                                                                                                             \
+                LOOP next[p] = best;                                                                                                        \
+                next_second[p] = tie;                                                                                                       \
+                j->scratch[i * k + p] = at;                                                                                                 \
+            }                                                                                                                               \
+            if (i == 0) return next[0] != NONE;                                                                                             \
+            memcpy(first, next, sizeof first);                                                                                              \
+            memcpy(second, next_second, sizeof second);                                                                                     \
+        }                                                                                                                                   \
+    }                                                                                                                                       \
+    /* one function for each kind of key, so that the compiler need not ask in the loop */                                                  \
+    static int name##_cost(const job *j, uint64_t n, uint64_t d) {                                                                          \
+        rule w = {n, d, FORBIDDEN, 0};                                                                                                      \
+        return name##_pass_of(j, &w);                                                                                                       \
+    }                                                                                                                                       \
+    static int name##_thrifty(const job *j, uint32_t ceiling) {                                                                             \
+        rule w = {0, 0, ceiling, 1};                                                                                                        \
+        return name##_pass_of(j, &w);                                                                                                       \
+    }
+
+/* The walk along the choices: the totals, and the settings where a plan is lent. */
+static sums walk(const job *j, uint8_t *plan) {
+    size_t k = j->settings, p = 0;
+    sums t = {0, 0, 0};
+    for (size_t i = 0; i < j->scans; i++) {
+        size_t q = j->scratch[i * k + p], cell = i ? k + (i - 1) * k * k + p * k + q : q;
+        t.rate += j->rates[cell];
+        t.distortion += j->distortions[cell];
+        if (j->distortions[cell] > t.peak) t.peak = j->distortions[cell];
+        if (plan) plan[i] = (uint8_t)q;
+        p = q;
+    }
+    return t;
+}
+
+static int illegal(const job *j) {
+    size_t cells = j->settings + (j->scans - 1) * j->settings * j->settings;
+    for (size_t i = 0; i < cells; i++)
+        if (j->rates[i] != FORBIDDEN && (j->rates[i] > MOST_CELL || j->distortions[i] > MOST_CELL)) return 1;
+    return 0;
+}
+
+static uint64_t divisor(uint64_t a, uint64_t b) { return b ? divisor(b, a % b) : a; }
+
+/* Whole calls over a pass. Each answers its values, or leaves 0 in the count. */
+#define CALLS(name)                                                                                                                         \
+    static size_t name##_multiplier(const job *j, uint64_t n, uint64_t d, int checked, uint8_t *plan, uint64_t *v) {                        \
+        if ((checked && illegal(j)) || !name##_cost(j, n, d)) return 0;                                                                     \
+        sums t = walk(j, plan);                                                                                                             \
+        v[0] = t.rate, v[1] = t.distortion, v[2] = t.peak;                                                                                  \
+        return 3;                                                                                                                           \
+    }                                                                                                                                       \
+    static size_t name##_average(const job *j, uint64_t budget, int checked, uint8_t *plan, uint64_t *v) {                                  \
+        if ((checked && illegal(j)) || !name##_thrifty(j, FORBIDDEN)) return 0;                                                             \
+        sums lo = walk(j, NULL);                                                                                                            \
+        if (lo.rate > budget) return 0;                                                                                                     \
+        uint64_t n = 0, d = 1;                                                                                                              \
+        name##_cost(j, n, d);                                                                                                               \
+        sums hi = walk(j, NULL);                                                                                                            \
+        if (hi.rate > budget)                                                                                                               \
+            for (;;) {                                                                                                                      \
+                n = lo.distortion - hi.distortion, d = hi.rate - lo.rate;                                                                   \
+                name##_cost(j, n, d);                                                                                                       \
+                sums t = walk(j, NULL);                                                                                                     \
+                if (d * t.distortion + n * t.rate == d * lo.distortion + n * lo.rate) break;                                                \
+                if (t.rate <= budget)                                                                                                       \
+                    lo = t;                                                                                                                 \
+                else                                                                                                                        \
+                    hi = t;                                                                                                                 \
+            }                                                                                                                               \
+        sums t = walk(j, plan);                                                                                                             \
+        uint64_t g = divisor(n, d);                                                                                                         \
+        n /= g, d /= g;                                                                                                                     \
+        uint64_t cost = d * t.distortion + n * t.rate, bought = n * budget;                                                                 \
+        v[0] = n, v[1] = d, v[2] = t.rate, v[3] = t.distortion, v[4] = t.peak, v[5] = cost < bought ? 0 : (cost - bought + d - 1) / d;      \
+        return 6;                                                                                                                           \
+    }                                                                                                                                       \
+    static size_t name##_minmax(const job *j, uint64_t budget, int checked, uint8_t *plan, uint64_t *v) {                                   \
+        if ((checked && illegal(j)) || !name##_thrifty(j, FORBIDDEN) || walk(j, NULL).rate > budget) return 0;                              \
+        uint32_t low = 0, high = MOST_CELL;                                                                                                 \
+        while (low < high) {                                                                                                                \
+            uint32_t middle = (low + high) / 2;                                                                                             \
+            if (name##_thrifty(j, middle) && walk(j, NULL).rate <= budget)                                                                  \
+                high = middle;                                                                                                              \
+            else                                                                                                                            \
+                low = middle + 1;                                                                                                           \
+        }                                                                                                                                   \
+        name##_thrifty(j, low);                                                                                                             \
+        sums t = walk(j, plan);                                                                                                             \
+        v[0] = low, v[1] = t.rate, v[2] = t.distortion, v[3] = t.peak;                                                                      \
+        return 4;                                                                                                                           \
+    }
+
+REFERENCE(straight, STRAIGHTFORWARD)
+REFERENCE(least, LEAST_FIRST)
+CALLS(straight)
+CALLS(least)

@@ -1,0 +1,143 @@
+/* Times of the proved calls beside the same calls written in C, in one run: the versions take turns, results are compared, and the ratio of
+ * the medians is printed. Below 1 the proved call is the faster one.
+ *
+ * A call includes the check of every cell, on both sides. "One pass" leaves it out: of the proved call it is a multiplier call less one that
+ * is refused at the last cell, and by hand it is the pass and the walk along its choices, with no check. */
+#define _POSIX_C_SOURCE 199309L
+#include "qpl.h"
+#include "reference.h"
+
+#include <stdio.h>
+#include <stdlib.h>
+#include <time.h>
+
+#define MOST (16 + 1023 * 256)
+#define TURNS 31
+
+static uint32_t rates[MOST], distortions[MOST];
+static uint8_t scratch[16384], plans[3][1024];
+
+static double now(void) {
+    struct timespec t;
+    clock_gettime(CLOCK_MONOTONIC, &t);
+    return (double)t.tv_sec * 1e6 + (double)t.tv_nsec / 1e3;
+}
+
+static uint64_t state = 1;
+static uint32_t drawn(uint32_t below) {
+    state = state * 6364136223846793005u + 1442695040888963407u;
+    return (uint32_t)((state >> 33) % below);
+}
+
+/* Random cells; or smooth ones, where a higher setting takes fewer bits and leaves more error, and a rough scan before costs both. */
+static void fill(size_t scans, size_t settings, int smooth) {
+    size_t k = settings, cells = k + (scans - 1) * k * k;
+    for (size_t c = 0; c < cells; c++) {
+        size_t q = c < k ? c : (c - k) % k, p = c < k ? 0 : (c - k) / k % k, i = c < k ? 0 : 1 + (c - k) / (k * k);
+        if (smooth) {
+            uint32_t wave = (uint32_t)(i % 97);
+            rates[c] = (uint32_t)(20000 / (q + 1) + 300 * p) + 40 * wave + drawn(30);
+            distortions[c] = (uint32_t)(900 * (q + 1) * (q + 1) + 250 * p) + 15 * wave + drawn(30);
+        } else {
+            rates[c] = drawn(MOST_CELL + 1);
+            distortions[c] = drawn(MOST_CELL + 1);
+        }
+    }
+}
+
+enum call { PASS, MULTIPLIER, AVERAGE, MINMAX };
+static const char *const names[] = {"one pass", "multiplier", "average", "minmax"};
+static const size_t lengths[] = {QPL_MULTIPLIER_ANSWER, QPL_MULTIPLIER_ANSWER, QPL_AVERAGE_ANSWER, QPL_MINMAX_ANSWER};
+
+static size_t proved(enum call which, const job *j, uint64_t limit, uint64_t *v) {
+    uint8_t answer[48];
+    size_t cells = j->settings + (j->scans - 1) * j->settings * j->settings;
+    uint64_t given;
+    if (which <= MULTIPLIER)
+        given = qpl_multiplier(j->scans, j->settings, j->law, limit, 1, rates, cells, distortions, cells, plans[0], 1024, scratch, 16384,
+                               answer, 48);
+    else if (which == AVERAGE)
+        given = qpl_average(j->scans, j->settings, j->law, limit, rates, cells, distortions, cells, plans[0], 1024, scratch, 16384, answer,
+                            48);
+    else
+        given = qpl_minmax(j->scans, j->settings, j->law, limit, rates, cells, distortions, cells, plans[0], 1024, scratch, 16384, answer,
+                           48);
+    if (given) return 0;
+    for (size_t k = 0; k < lengths[which] / 8; k++) v[k] = qpl_value(answer, k);
+    return lengths[which] / 8;
+}
+
+static size_t by_hand(int version, enum call which, const job *j, uint64_t limit, uint64_t *v) {
+    uint8_t *plan = plans[version];
+    int checked = which != PASS;
+    if (which <= MULTIPLIER)
+        return version == 1 ? straight_multiplier(j, limit, 1, checked, plan, v) : least_multiplier(j, limit, 1, checked, plan, v);
+    if (which == AVERAGE) return version == 1 ? straight_average(j, limit, checked, plan, v) : least_average(j, limit, checked, plan, v);
+    return version == 1 ? straight_minmax(j, limit, checked, plan, v) : least_minmax(j, limit, checked, plan, v);
+}
+
+static int compare(const void *a, const void *b) {
+    double x = *(const double *)a, y = *(const double *)b;
+    return (x > y) - (x < y);
+}
+
+static double median(double *took) {
+    qsort(took, TURNS, sizeof(double), compare);
+    return took[TURNS / 2];
+}
+
+/* The time of one call of this version, which is repeated where the clock could not tell. */
+static double timed(int version, enum call which, const job *j, uint64_t limit, uint64_t *v, size_t times) {
+    double start = now();
+    for (size_t k = 0; k < times; k++)
+        if (version == 0)
+            proved(which, j, limit, v);
+        else
+            by_hand(version, which, j, limit, v);
+    return (now() - start) / (double)times;
+}
+
+/* Version 0 is the proved call, 1 the straightforward loop, 2 the least key first. */
+static int row(enum call which, size_t scans, size_t settings, size_t law, int smooth) {
+    double took[3][TURNS];
+    uint64_t v[3][6] = {{0}}, unused[6], limit;
+    job j = {rates, distortions, scans, settings, law, scratch};
+    size_t cells = settings + (scans - 1) * settings * settings, times = 1 + 60000 / cells / (which <= MULTIPLIER ? 1 : 8);
+    fill(scans, settings, smooth);
+    /* a multiplier of 1, or a budget half way from the least rate to the rate of the plan at multiplier zero */
+    straight_thrifty(&j, FORBIDDEN);
+    limit = walk(&j, NULL).rate;
+    straight_cost(&j, 0, 1);
+    limit = which <= MULTIPLIER ? 1 : (limit + walk(&j, NULL).rate) / 2;
+    for (int turn = 0; turn < TURNS; turn++) {
+        for (int version = 0; version < 3; version++) took[version][turn] = timed(version, which, &j, limit, v[version], times);
+        if (which == PASS) {
+            uint32_t last = distortions[cells - 1];
+            distortions[cells - 1] = MOST_CELL + 1;
+            took[0][turn] -= timed(0, which, &j, limit, unused, times);
+            distortions[cells - 1] = last;
+        }
+    }
+    for (int other = 1; other < 3; other++)
+        if (v[0][lengths[which] / 8 - 2] == 0 || memcmp(v[0], v[other], lengths[which]) || memcmp(plans[0], plans[other], scans))
+            return printf("%s: results differ\n", names[which]), 1;
+    double ours = median(took[0]);
+    printf("%-10s N %4zu Q %2zu law %zu %-6s  %9.1f us  %5.3f  %5.3f\n", names[which], scans, settings, law, smooth ? "smooth" : "random", ours,
+           ours / median(took[1]), ours / median(took[2]));
+    return 0;
+}
+
+int main(void) {
+    static const size_t scans[] = {64, 256, 1024}, settings[] = {4, 8, 16};
+    int failed = 0;
+    printf("call, table, time of the proved call, and its ratio to the straightforward loop and to the one that takes the least key first\n");
+    for (int which = PASS; which <= MINMAX; which++)
+        for (int s = 0; s < 3; s++)
+            for (int k = 0; k < 3; k++) failed += row((enum call)which, scans[s], settings[k], 0, 0);
+    for (int which = PASS; which <= MINMAX; which++)
+        for (int k = 0; k < 3; k++) {
+            failed += row((enum call)which, 1024, settings[k], 1, 0);
+            failed += row((enum call)which, 1024, settings[k], 0, 1);
+        }
+    return failed != 0;
+}

@@ -1,0 +1,57 @@
+#!/usr/bin/env python3
+"""What the calls of the C surface must give back and leave, from include/qpl.h and document 01, sharing nothing with the library."""
+
+import planfile
+import planner
+import room
+from planner import AVERAGE, CEILING, MINMAX, MULTIPLIER
+
+NAMES = {CEILING: "ceiling", MULTIPLIER: "multiplier", MINMAX: "minmax", AVERAGE: "average"}
+NEEDS = {CEILING: 24, MULTIPLIER: 24, MINMAX: 32, AVERAGE: 48}
+ROOM_NEEDS, READ_NEEDS = 24, 88
+
+# a buffer that is too short for every table
+NO_ROOM = -1
+
+
+def word(number, carried):
+    return number | carried << 32
+
+
+def with_values(values, answer):
+    content = b"".join(value.to_bytes(8, "little") for value in values)
+    return content + answer[len(content) :]
+
+
+def room_call(channels, scans, settings, answer):
+    number, *values = room.room(channels, scans, settings)
+    if number:
+        return word(number, values[0]), answer
+    if len(answer) < ROOM_NEEDS:
+        return word(6, 0), answer
+    return 0, with_values(values, answer)
+
+
+def plan_call(make, call, scans, settings, law, limits, rates, distortions, plan, scratch, answer):
+    """The number, and the buffers answer, plan and scratch."""
+    if len(answer) < NEEDS[call]:
+        number, carried = planner.early_refusal(call, scans, settings, law, limits, rates, distortions, NO_ROOM, len(scratch))
+        return word(number, carried), answer, plan, scratch
+    number, values, plan, scratch = planner.answer(make, call, scans, settings, law, limits, rates, distortions, plan, scratch)
+    if number:
+        return word(number, values[0]), answer, plan, scratch
+    return 0, with_values(values, answer), plan, scratch
+
+
+def read_call(file, plan, answer):
+    """The number, and the buffers answer and plan."""
+    try:
+        f, settings = planfile.reading(file, len(plan) if len(answer) >= READ_NEEDS else NO_ROOM)
+    except planfile.Refusal as refusal:
+        return word(*refusal.args), answer, plan
+    return 0, with_values([f[name] for name in planfile.NAMES], answer), bytes(settings) + plan[len(settings) :]
+
+
+def write_call(f, settings, file):
+    number, values, file = planfile.write(f, settings, file)
+    return (word(number, values[0]) if number else 0), file
