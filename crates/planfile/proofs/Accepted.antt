@@ -11,6 +11,7 @@ use lib.Seq.{take-all}
 use borrow.Author.Tests.{eqb-true, not-false, ltb-true, ltb-false, le-ltb}
 use Rattle.tables.specs.declared.refusal.Refusal.the-variants as refusal
 use Rattle.tables.specs.Planning.{scans-out}
+use Rattle.tables.proofs.Tests.{neither}
 use Rattle.planfile.specs.declared.fields.Fields.{Fields}
 use Rattle.planfile.specs.Bytes.{number-at}
 use Rattle.planfile.specs.File.{either, entry-of, header, data-blocks, file-length, file-of, entry-at}
@@ -21,7 +22,7 @@ use Rattle.planfile.specs.Writing.{no-marks, write-short, write-refusal}
 use Rattle.planfile.proofs.PartLaws.{part-join}
 use Rattle.planfile.proofs.NumberLaws.{Bytes}
 use Rattle.planfile.proofs.HalfLaws.{length-entries, getD-entries}
-use Rattle.planfile.proofs.CheckLaws.{neither, none-else, else-none, none-when, none-found, none-so, none-first}
+use Rattle.planfile.proofs.CheckLaws.{none-else, else-none, none-when, none-found, none-so, none-first}
 use Rattle.planfile.proofs.FieldLaws.{Kept, kept, kept-passes, limited, same-broken}
 use Rattle.planfile.proofs.BlockLaws.{within, right-length, sealed-part, header-part, blocks-part}
 

@@ -8,6 +8,7 @@ use lib.Dec.{eqb, ltb}
 use lib.ListN.{length, take, getD, replicate, length-append, length-replicate, List·getD-append}
 use lib.Seq.{take-at, drop-at, take-append-le, getD-append-add}
 use borrow.Author.Tests.{eq-eqb, eqb-true, ltb-false, not-false}
+use Rattle.tables.proofs.Tests.{neither}
 use Rattle.planfile.specs.declared.fields.Fields.{Fields}
 use Rattle.planfile.specs.Bytes.{le, value, part, number-at, sum, half}
 use Rattle.planfile.specs.File.{letters, header, sealed, data-block, data-from, pairs, entry-at, either, data-blocks, file-length}
@@ -15,7 +16,6 @@ use Rattle.planfile.specs.Reading.{length-out, other-length, block-broke
 use Rattle.planfile.proofs.PartLaws.{part-length, part-join, part-middle}
 use Rattle.planfile.proofs.NumberLaws.{length-le, value-le, Bytes, number-back, Small, _joins_, small-le, small-zeros}
 use Rattle.planfile.proofs.HalfLaws.{halves, half-pair, length-pairs, small-pairs, getD-pairs, pairs-part}
-use Rattle.planfile.proofs.CheckLaws.{neither}
 use Rattle.planfile.proofs.FieldLaws.{Kept}
 
 -- ---- how many blocks

@@ -12,13 +12,13 @@ use borrow.Author.Tests.{le-ltb}
 use Rattle.tables.specs.declared.refusal.Refusal.{Refusal}
 use Rattle.tables.specs.declared.refusal.Refusal.the-variants as refusal
 use Rattle.tables.specs.Planning.{first-refusal}
+use Rattle.tables.proofs.Tests.{never}
 use Rattle.planfile.specs.declared.fields.Fields.{Fields}
 use Rattle.planfile.specs.File.{file-length, file-of, entry-at}
 use Rattle.planfile.specs.Rules.{header-rules, entry-broken, first-from, found, when, or-else}
 use Rattle.planfile.specs.Reading.{length-out, bad-block, fields-of, broken-field, bad-entry, read-refusal, entries}
 use Rattle.planfile.specs.Writing.{no-marks, write-short, write-refusal}
 use Rattle.planfile.proofs.NumberLaws.{number-small}
-use Rattle.planfile.proofs.CheckLaws.{never}
 use Rattle.planfile.proofs.Back.{fields-back, settings-back, read-back}
 use Rattle.planfile.proofs.Accepted.{passed, accepted-file, accepted-plan}
 

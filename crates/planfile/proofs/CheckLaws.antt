@@ -8,19 +8,11 @@ use native.Mathlib.Decide.{decLt}
 use native.Mathlib.Omega.{arith}
 use Rattle.tables.specs.declared.refusal.Refusal.{Refusal}
 use Rattle.tables.specs.Planning.{Check, first-refusal, or-later}
+use Rattle.tables.proofs.Tests.{never, none-fails}
 use Rattle.planfile.specs.File.{either}
 use Rattle.planfile.specs.Rules.{first-from, found, when, or-else}
 
--- 0 is not 1: what contradicts itself, as `cc` finds it
-pub never : {A : Type 0} → _≡_ {A = ℕ} 0 1 → A
-never e = absurd (omega arith)
-
 -- ---- two tests
-
--- neither of two tests holds
-pub neither : (s t : Bool) → (s || t) ≡ false → (s ≡ false) × (t ≡ false)
-neither true t e = never cc
-neither false t e = (refl, e)
 
 -- neither of two refuses
 pub none-else : (o p : Option Refusal) → or-else o p ≡ none → (o ≡ none) × (p ≡ none)
@@ -38,11 +30,6 @@ none-when true r e = never cc
 none-when false r e = refl
 
 -- ---- a list of checks
-
--- no check refuses: neither the first nor a later one
-none-fails : (fails : Bool) (r : Refusal) (later : Option Refusal) → or-later fails r later ≡ none → (fails ≡ false) × (later ≡ none)
-none-fails true r later e = never cc
-none-fails false r later e = (refl, e)
 
 -- every check of a list passes
 abbrev pub AllPass : List Check → Type 0

@@ -13,14 +13,15 @@ use Rattle.criteria.specs.Fraction.{gcd}
 use Rattle.tables.specs.declared.refusal.Refusal.the-variants as refusal
 use Rattle.tables.specs.Limits.{most-term, most-total, most-cell}
 use Rattle.tables.specs.Planning.{first-refusal, zero-or-over, scans-out, settings-out, law-out}
-use Rattle.tables.proofs.Tests.{in-range}
+use Rattle.tables.proofs.Tests.{in-range, neither}
 use Rattle.planfile.specs.declared.fields.Fields.{Fields}
 use Rattle.planfile.specs.declared.fields.Marks.{Marks}
 use Rattle.planfile.specs.File.{either, entry-of}
 use Rattle.planfile.specs.Rules.{header-rules, kind-out, n-broken, d-broken, rate-broken, peak-broken, floor-broken}
 use Rattle.planfile.specs.Rules.{entry-broken, first-from}
 use Rattle.planfile.specs.Writing.{no-marks, write-short, write-refusal}
-use Rattle.planfile.proofs.CheckLaws.{neither, none-else, none-when, all-pass, none-found, none-so}
+use Rattle.planfile.proofs.PutLaws.{setting-small}
+use Rattle.planfile.proofs.CheckLaws.{none-else, none-when, all-pass, none-found, none-so}
 
 -- ---- one field
 
@@ -171,14 +172,11 @@ entry-below N Q law e j h g = ltb-true (e j) Q (not-false _ (neither _ _ (rw (lt
 
 -- each entry that is written is of four bits
 pub entry-small : (f : Fields) (settings : List ℕ) → Writable f settings → (j : ℕ) → entry-of (f .scans) settings j < 16
-entry-small f settings k j = at (decLt j (f .scans))
-  where
-    at : Dec (j < f .scans) → entry-of (f .scans) settings j < 16
-    at (yes h) =
-        rw (lt-ltb j (f .scans) h)
-        (omega (
-          arith,
-          entry-below (f .scans) (f .settings) (f .law) (λ j. getD settings j 0) j h (k .entries j h),
-          limited no-marks f (k .rules) .settings,
-        ))
-    at (no h) = rw (le-ltb j (f .scans) (omega arith)) (omega arith)
+entry-small f settings k =
+    setting-small (f .scans) settings
+    (λ j h.
+    omega (
+      arith,
+      entry-below (f .scans) (f .settings) (f .law) (λ i. getD settings i 0) j h (k .entries j h),
+      limited no-marks f (k .rules) .settings,
+    ))

@@ -282,6 +282,6 @@ pub entry-out : (N : ℕ) (settings : List ℕ) (j : ℕ) → N ≤ j → entry-
 entry-out N settings j h = rw (le-ltb j N h) refl
 
 -- settings of four bits make entries of four bits
-pub entry-small : (N : ℕ) (settings : List ℕ) → ((j : ℕ) → j < N → getD settings j 0 < 16) → (j : ℕ) → entry-of N settings j < 16
-entry-small N settings h j =
+pub setting-small : (N : ℕ) (settings : List ℕ) → ((j : ℕ) → j < N → getD settings j 0 < 16) → (j : ℕ) → entry-of N settings j < 16
+setting-small N settings h j =
     cases j N (λ a. omega (arith, entry-in N settings j a, h j a)) (λ a. omega (arith, entry-out N settings j a))

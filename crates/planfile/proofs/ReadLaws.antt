@@ -14,6 +14,7 @@ use Rattle.tables.specs.declared.refusal.Refusal.{Refusal}
 use Rattle.tables.specs.declared.refusal.Refusal.the-variants as refusal
 use Rattle.tables.specs.Refusals.{refused, answered}
 use Rattle.tables.specs.Planning.{scans-out}
+use Rattle.tables.proofs.Tests.{neither, never}
 use Rattle.planfile.specs.declared.fields.Fields.{Fields}
 use Rattle.planfile.specs.declared.stage.Stage.{Stage}
 use Rattle.planfile.specs.declared.stage.Stage.the-variants.{Passed, Stopped}
@@ -22,7 +23,7 @@ use Rattle.planfile.specs.File.{entry-at, file-length}
 use Rattle.planfile.specs.Rules.{or-else, when, found, first-from, entry-broken}
 use Rattle.planfile.specs.Stages.{ended, why-of}
 use Rattle.planfile.specs.Reading.{length-out, bad-block, broken-field, bad-entry, fields-of, marks-of, other-length, values-of, entries, read-refusal, read-of, settings-after}
-use Rattle.planfile.proofs.CheckLaws.{neither, none-when, never}
+use Rattle.planfile.proofs.CheckLaws.{none-when}
 use Rattle.planfile.proofs.FieldLaws.{Kept, kept, limited}
 use Rattle.planfile.proofs.BlockLaws.{right-length, within, few-blocks}
 use Rattle.planfile.proofs.HalfLaws.{length-entries}

@@ -14,12 +14,12 @@ use Rattle.tables.specs.declared.refusal.Refusal.{Refusal}
 use Rattle.tables.specs.declared.refusal.Refusal.the-variants as refusal
 use Rattle.tables.specs.Refusals.{refused, answered}
 use Rattle.tables.specs.Planning.{first-refusal, scans-out}
-use Rattle.tables.proofs.Tests.{in-range}
+use Rattle.tables.proofs.Tests.{in-range, neither}
 use Rattle.planfile.specs.declared.fields.Fields.{Fields}
 use Rattle.planfile.specs.File.{sealed, header, data-block, data-blocks, data-from, entry-of, file-of, file-length, either}
 use Rattle.planfile.specs.Rules.{or-else, when, found, first-from, entry-broken, header-rules}
 use Rattle.planfile.specs.Writing.{no-marks, write-short, write-refusal, write-of, file-after}
-use Rattle.planfile.proofs.CheckLaws.{neither, none-when}
+use Rattle.planfile.proofs.CheckLaws.{none-when}
 use Rattle.planfile.proofs.FieldLaws.{Kept, kept, Writable, writable, entry-small}
 use Rattle.planfile.proofs.Back.{length-back}
 

@@ -13,22 +13,12 @@ use Rattle.tables.specs.declared.legal.Legality.{Legality}
 use Rattle.tables.specs.declared.legal.Legality.the-variants.{Legal, Illegal}
 use Rattle.tables.specs.Tables.{cells}
 use Rattle.tables.specs.Judged.{Judged}
-use Rattle.tables.specs.Planning.{Asked, Unsound, Sound, early, illegal, or-later, early-refusal, scans-out, settings-out, law-out, lengths-out, buffers-short}
-use Rattle.tables.proofs.Tests.{in-range}
+use Rattle.tables.specs.Planning.{Asked, Unsound, Sound, early, illegal, early-refusal, scans-out, settings-out, law-out, lengths-out, buffers-short}
+use Rattle.tables.proofs.Tests.{in-range, neither, none-fails}
 use Rattle.trellis.specs.Pass.{Fit}
 use Rattle.planner.specs.Checked.{CheckedAs, CellsChecked, all-legal, not-legal}
 use Rattle.planner.specs.declared.check.Checked.{Checked}
 use Rattle.planner.specs.declared.check.Checked.the-variants as checked
-
--- neither of two tests holds
-pub neither : (s t : Bool) → (s || t) ≡ false → (s ≡ false) × (t ≡ false)
-neither true t e = absurd (let z : _≡_ {A = ℕ} 0 1 = cc in omega arith)
-neither false t e = (refl, e)
-
--- no check refuses: neither the first nor a later one
-none-fails : (fails : Bool) (r : Refusal) {later : Option Refusal} → or-later fails r later ≡ none → (fails ≡ false) × (later ≡ none)
-none-fails true r e = absurd (let z : _≡_ {A = ℕ} 0 1 = cc in omega arith)
-none-fails false r e = (refl, e)
 
 -- check 7 alone, by what the legality check answers
 pub cells-legal : {rates distortions : List ℕ} {v : Legality} → Judged rates distortions v → v ≡ Legal → CellsChecked rates distortions checked.Sound
@@ -102,12 +92,12 @@ module _ {fourth : Bool} {a : Asked} where
   sound-passes : Sound fourth a → Passes fourth a
   unfolding early-refusal
   sound-passes s =
-      let n = none-fails (scans-out (a .N)) Scans (s .passed) in
-      let q = none-fails (settings-out (a .Q)) Settings (n .1) in
-      let l = none-fails (law-out (a .law)) StepLaw (q .1) in
-      let m = none-fails fourth Multiplier (l .1) in
-      let w = none-fails (lengths-out (a .N) (a .Q) (a .rates) (a .distortions)) Lengths (m .1) in
-      let b = none-fails (buffers-short (a .N) (a .Q) (a .plan) (a .scratch)) Buffer (w .1) in
+      let n = none-fails (scans-out (a .N)) Scans _ (s .passed) in
+      let q = none-fails (settings-out (a .Q)) Settings _ (n .1) in
+      let l = none-fails (law-out (a .law)) StepLaw _ (q .1) in
+      let m = none-fails fourth Multiplier _ (l .1) in
+      let w = none-fails (lengths-out (a .N) (a .Q) (a .rates) (a .distortions)) Lengths _ (m .1) in
+      let b = none-fails (buffers-short (a .N) (a .Q) (a .plan) (a .scratch)) Buffer _ (w .1) in
       record { scans = n .0; settings = q .0; law = l .0; multiplier = m .0; lengths = w .0; buffers = b .0 }
 
   -- a sound call is one that a pass can be asked, lends room for the plan, and has no multiplier out of range

@@ -13,7 +13,7 @@ use Rattle.tables.specs.declared.refusal.Refusal.the-variants as refusal
 use Rattle.tables.specs.Refusals.{Reply, refused, answered}
 use Rattle.tables.specs.Planning.{Asked, Sound, problem-of, multiplier-out, zero-or-over}
 use Rattle.tables.specs.Limits.{most-term}
-use Rattle.tables.proofs.Tests.{in-range}
+use Rattle.tables.proofs.Tests.{in-range, neither}
 use Rattle.trellis.specs.declared.walk.Totals.{Totals}
 use Rattle.trellis.specs.Chosen.{chosen}
 use Rattle.trellis.specs.Walked.{TotalsOf}
@@ -25,7 +25,6 @@ use Rattle.planner.specs.Search.{Framed, Finished, ThriftyTotals, Given}
 use Rattle.planner.specs.Started.{StartedAs, fits, none-allowed, none-fits}
 use Rattle.planner.specs.declared.seek.Started.{Started}
 use Rattle.planner.specs.declared.seek.Started.the-variants as started
-use Rattle.planner.proofs.CheckLaws.{neither}
 use Rattle.planner.proofs.SeekLaws.{wiped-same}
 
 -- the values of an answer are the sequence's totals

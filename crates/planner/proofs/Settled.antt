@@ -25,6 +25,7 @@ use Rattle.tables.proofs.RefusalLaws.{refused-unique, answered-or-refused}
 use Rattle.tables.proofs.Hidden.{shown-agrees, shown-sym, all-legal-same, lowest-illegal-same}
 use Rattle.tables.proofs.Listing.{table-finite, law?}
 use Rattle.trellis.specs.declared.walk.Totals.{Totals}
+use Rattle.tables.proofs.Tests.{never}
 use Rattle.planner.specs.declared.answer.PlanAnswer.{PlanAnswer}
 use Rattle.planner.specs.declared.answer.PlanAnswer.the-variants as plan-answer
 use Rattle.planner.specs.declared.answer.MinmaxAnswer.{MinmaxAnswer}
@@ -33,9 +34,6 @@ use Rattle.planner.specs.declared.answer.AveragePlan.{AveragePlan}
 use Rattle.planner.specs.declared.answer.AverageAnswer.{AverageAnswer}
 use Rattle.planner.specs.declared.answer.AverageAnswer.the-variants as average-answer
 use Rattle.planner.specs.Promise.{Promise, unsound, no-sequence, none-within, planned, handed, wiped, totals, IsCeilingPlan, IsMultiplierPlan, IsMinmaxPlan, IsAveragePlan, plan-reply, minmax-reply, average-reply, CeilingPromise, MultiplierPromise, MinmaxPromise, AveragePromise}
-
-never : {A : Type 0} → _≡_ {A = ℕ} 0 1 → A
-never e = absurd (omega arith)
 
 -- the checks give one refusal, and none where they pass
 module _ {fourth : Bool} {a : Asked} where

@@ -1,7 +1,7 @@
 -- Text after text in a lent buffer. Assumes nothing.
 use mathlib.Core.Path.{_≡_, refl, sym, ap, _∙_}
 use mathlib.Core.List.{List, [], _∷_, _++_}
-use Prim.Native.Nat.{ℕ, suc, _+_, _<_}
+use Prim.Native.Nat.{ℕ, suc, _+_, _≤_, _<_}
 use native.Mathlib.Omega.{arith}
 use native.Mathlib.Numerals.{add-one}
 use lib.ListN.{length, getD, take, set, length-append}
@@ -23,9 +23,9 @@ copied-more d s at i h =
 pub put-so : {d o : List ℕ} {at r : ℕ} (t : List ℕ) → (r ≡ at + length t) × (o ≡ sets d at t) → Put d at t o r
 put-so t p = record { so = p .1; end = p .0 }
 
--- and the other way
-pub so-put : {o t : List ℕ} {r : ℕ} (d : List ℕ) (at : ℕ) → Put d at t o r → (r ≡ at + length t) × (o ≡ sets d at t)
-so-put d at p = (p .end, p .so)
+-- and the other way, with a bound of the place after it
+pub so-put : {o t : List ℕ} {r most : ℕ} (d : List ℕ) (at : ℕ) → Put d at t o r → r ≤ most → (r ≡ at + length t) × ((o ≡ sets d at t) × (r ≤ most))
+so-put d at p h = (p .end, (p .so, h))
 
 -- a text, and another right behind it
 pub next : {d o o′ t u : List ℕ} {at r r′ : ℕ} → Put d at t o r → Put o r u o′ r′ → Put d at (t ++ u) o′ r′

@@ -96,6 +96,7 @@ pub fn ave_line(out: &mut [u8], at: usize, answer: AverageAnswer, settings: &[u8
     requires { ⌜ at + (256 + 4 * length (now settings)) ≤ length (now out) ⌝ }
     ensures { λ r. ⌜ r ≡ at + length (ave-line (average-reply answer) (now (settings .entry))) ⌝ }
     ensures { λ _. ⌜ now (out .exit) ≡ sets (now (out .entry)) at (ave-line (average-reply answer) (now (settings .entry))) ⌝ }
+    ensures { λ r. ⌜ r ≤ at + (256 + 4 * length (now (settings .entry))) ⌝ }
 {
     let text = put(out, at, b"ave");
     let end = put_average_answer(out, text, answer, settings);
@@ -106,6 +107,7 @@ pub fn minmax_line(out: &mut [u8], at: usize, answer: MinmaxAnswer, settings: &[
     requires { ⌜ at + (256 + 4 * length (now settings)) ≤ length (now out) ⌝ }
     ensures { λ r. ⌜ r ≡ at + length (minmax-line (minmax-reply answer) (now (settings .entry))) ⌝ }
     ensures { λ _. ⌜ now (out .exit) ≡ sets (now (out .entry)) at (minmax-line (minmax-reply answer) (now (settings .entry))) ⌝ }
+    ensures { λ r. ⌜ r ≤ at + (256 + 4 * length (now (settings .entry))) ⌝ }
 {
     let text = put(out, at, b"minmax");
     let end = put_minmax_answer(out, text, answer, settings);

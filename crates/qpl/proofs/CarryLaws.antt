@@ -15,7 +15,7 @@ use Rattle.tables.specs.Limits.{most-scans, most-settings}
 use Rattle.tables.specs.Tables.{cells}
 use Rattle.tables.specs.Planning.{Asked, Check, or-later, first-refusal, planning-checks, early-refusal, Unsound, early, illegal}
 use Rattle.tables.specs.Room.{room-checks, room-of, or-answer}
-use Rattle.tables.proofs.Tests.{in-range}
+use Rattle.tables.proofs.Tests.{in-range, neither}
 use Rattle.tables.proofs.CellLaws.{cells-small}
 use Rattle.tables.proofs.RefusalLaws.{never-zero}
 use Rattle.planfile.specs.declared.fields.Fields.{Fields}
@@ -24,7 +24,7 @@ use Rattle.planfile.specs.File.{either, entry-at, file-length}
 use Rattle.planfile.specs.Rules.{header-rules, entry-broken, first-from, found, when, or-else}
 use Rattle.planfile.specs.Reading.{length-out, block-broken, bad-block, bad-entry, broken-field, fields-of, marks-of, read-refusal, read-of, values-of}
 use Rattle.planfile.specs.Writing.{no-marks, write-short, write-refusal, write-of}
-use Rattle.planfile.proofs.CheckLaws.{all-pass, neither, none-when}
+use Rattle.planfile.proofs.CheckLaws.{all-pass, none-when}
 use Rattle.planfile.proofs.ReadLaws.{two-lengths}
 use Rattle.planfile.proofs.WriteLaws.{scans-inside}
 use Rattle.planfile.proofs.Accepted.{passed}

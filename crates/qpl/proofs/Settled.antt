@@ -14,11 +14,10 @@ use Rattle.tables.specs.declared.refusal.Refusal.the-variants as refusal
 use Rattle.tables.specs.Limits.{most-scans}
 use Rattle.tables.specs.Refusals.{Reply, refused, numberOf, carriedBy}
 use Rattle.tables.specs.Planning.{Asked, or-later, early-refusal, scans-out, settings-out, law-out, lengths-out, buffers-short}
-use Rattle.tables.proofs.Tests.{in-range}
+use Rattle.tables.proofs.Tests.{in-range, never, neither}
 use Rattle.tables.proofs.RefusalLaws.{never-zero, refusal-of, refusal-back}
 use Rattle.planfile.specs.Rules.{found, when, or-else}
 use Rattle.planfile.specs.Reading.{length-out, bad-block, broken-field, fields-of, marks-of, read-refusal}
-use Rattle.planfile.proofs.CheckLaws.{never, neither}
 use Rattle.planfile.proofs.FieldLaws.{kept}
 use Rattle.planner.specs.Checked.{asking}
 use Rattle.planner.specs.Promise.{CeilingPromise, MultiplierPromise, MinmaxPromise, AveragePromise, plan-reply, minmax-reply, average-reply}

@@ -2,13 +2,29 @@
 use mathlib.Core.Path.{_≡_, refl}
 use mathlib.Core.Logic.{_↔_, _⊎_, inl, inr, ⊎-elim}
 use mathlib.Core.Bool.{Bool, true, false, not, _||_}
+use mathlib.Core.Option.{Option, none, some}
 use Prim.Native.Nat.{ℕ, zero, suc, _+_, _-_, _≤_, _<_}
 use native.Mathlib.Omega.{arith}
 use lib.Dec.{leb, ltb, eqb}
 use borrow.Author.Tests.{leb-true, le-leb, eqb-true, eq-eqb, ne-eqb, ltb-true, ltb-false, lt-ltb, le-ltb, eqb-false}
 use Rattle.tables.specs.Limits.{most-scans}
 use Rattle.tables.specs.Tables.{within-two, law-of}
-use Rattle.tables.specs.Planning.{zero-or-over}
+use Rattle.tables.specs.declared.refusal.Refusal.{Refusal}
+use Rattle.tables.specs.Planning.{zero-or-over, or-later}
+
+-- 0 is not 1: what contradicting clauses of a definition by cases come to
+pub never : {A : Type 0} → _≡_ {A = ℕ} 0 1 → A
+never e = absurd (omega arith)
+
+-- neither of two tests holds
+pub neither : (s t : Bool) → (s || t) ≡ false → (s ≡ false) × (t ≡ false)
+neither true t e = never cc
+neither false t e = (refl, e)
+
+-- no check refuses: neither the first nor a later one
+pub none-fails : (fails : Bool) (r : Refusal) (later : Option Refusal) → or-later fails r later ≡ none → (fails ≡ false) × (later ≡ none)
+none-fails true r later e = never cc
+none-fails false r later e = (refl, e)
 
 -- a test that is the first of two ways, and holds
 pub first-holds : {A B : Type 0} → A → (true ≡ true) ↔ (A ⊎ B)
@@ -28,19 +44,17 @@ down-by-two {p} {q} h = ((λ e. (omega (arith, leb-true (p - q) 2 e), omega arit
 -- "is 0 or over": what is known of a number that is not
 pub in-range : {most x : ℕ} → zero-or-over most x ≡ false → (1 ≤ x) × (x ≤ most)
 unfolding zero-or-over
-in-range {most} {x} e = both (eqb x 0) (ltb most x) (eqb-false x 0) (ltb-false most x) e
-  where
-    both : (a b : Bool) → (a ≡ false → x ≡ 0 → ⊥) → (b ≡ false → x ≤ most) → (a || b) ≡ false → (1 ≤ x) × (x ≤ most)
-    both true b f g e = absurd (let z : _≡_ {A = ℕ} 0 1 = cc in omega arith)
-    both false true f g e = absurd (let z : _≡_ {A = ℕ} 0 1 = cc in omega arith)
-    both false false f g e = (let n = f refl in omega arith, g refl)
+in-range {most} {x} e =
+    let b = neither (eqb x 0) (ltb most x) e in
+    let n = eqb-false x 0 (b .0) in
+    (omega arith, ltb-false most x (b .1))
 
 -- any number but 0 and 1 is no law
 pub no-law : (law p q : ℕ) → (law ≡ 0 → ⊥) → (law ≡ 1 → ⊥) → (false ≡ true) ↔ law-of law p q
 no-law zero p q h g = absurd (h refl)
 no-law (suc zero) p q h g = absurd (g refl)
-no-law (suc (suc k)) p q h g = ((λ e. let z : _≡_ {A = ℕ} 0 1 = cc in omega arith), (λ w. absurd w))
+no-law (suc (suc k)) p q h g = ((λ e. never cc), (λ w. absurd w))
 
 -- a test and its denial do not both hold
 pub clash : {t : Bool} → not t ≡ true → t ≡ true → ⊥
-clash {t} e f = let z : false ≡ true = (rw f at e) in let y : _≡_ {A = ℕ} 0 1 = cc in omega arith
+clash {t} e f = let z : false ≡ true = (rw f at e) in never cc

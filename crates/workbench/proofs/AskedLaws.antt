@@ -13,6 +13,7 @@ use borrow.Author.Tests.{eqb-true, eq-eqb, ltb-true, ltb-false, leb-true}
 use Rattle.tables.specs.declared.refusal.Refusal.the-variants as refusal
 use Rattle.tables.specs.Tables.{cells}
 use Rattle.tables.specs.Planning.{first-refusal, or-later, scans-out, settings-out, law-out}
+use Rattle.tables.proofs.Tests.{never}
 use Rattle.reading.specs.Text.{Open, between, digits, other, words, words-from, closed, grown, separator}
 use Rattle.reading.specs.Fed.{Fed, so-far, stopped, as-words, taken-of}
 use Rattle.reading.specs.declared.State.{State}
@@ -20,9 +21,6 @@ use Rattle.reading.proofs.Text.{ends-as-separator}
 use Rattle.workbench.specs.Asked.{Asked, bad-input, too-large, to-plan}
 use Rattle.workbench.specs.Asked.{asked, first, add, most-cells, range-checks, with-cells, with-rest, with-four, in-range}
 use Rattle.workbench.specs.Done.{settles, Decided}
-
-never : {A : Type 0} → _≡_ {A = ℕ} 0 1 → A
-never e = absurd (omega arith)
 
 -- ---- the first words, where they are numbers
 

@@ -13,6 +13,7 @@ use Rattle.tables.specs.declared.refusal.Refusal.{Refusal}
 use Rattle.tables.specs.declared.refusal.Refusal.the-variants.{Scans, Settings, StepLaw}
 use Rattle.tables.specs.Tables.{cells}
 use Rattle.tables.specs.Planning.{or-later, scans-out, settings-out, law-out}
+use Rattle.tables.proofs.Tests.{never}
 use Rattle.reading.specs.Fed.{as-words, taken-of}
 use Rattle.reading.specs.declared.State.{State}
 use Rattle.workbench.specs.Asked.{Asked, bad-input, out-of-range, too-large, to-plan, asked, most-cells, in-range}
@@ -21,9 +22,6 @@ use Rattle.workbench.specs.Parts.{Fits, Heads, Asks, plan-asked, scans, 
 use Rattle.workbench.specs.declared.judge.Head.{Head}
 use Rattle.workbench.specs.declared.judge.Head.the-variants as head
 use Rattle.workbench.proofs.AskedLaws.{settled, rest-asked, by-words, four-given, too-few, rest-other, rest-cells, all-taken, not-taken}
-
-never : {A : Type 0} → _≡_ {A = ℕ} 0 1 → A
-never e = absurd (omega arith)
 
 -- a test of a number that was read, and what it answered
 pub tested : (f : ℕ → Bool) {x y : ℕ} {r b : Bool} → r ≡ f x → x ≡ y → r ≡ b → f y ≡ b

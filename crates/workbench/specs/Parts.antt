@@ -5,10 +5,10 @@ use mathlib.Core.Option.{Option, none, some}
 use mathlib.Core.List.{List, [], _∷_, _++_}
 use Prim.Native.Nat.{ℕ, _+_, _≤_, _<_}
 use lib.ListN.{length, getD, take, drop}
-use lib.Seq.{sets}
 use Rattle.tables.specs.declared.refusal.Refusal.{Refusal}
 use Rattle.tables.specs.Tables.{cells}
 use Rattle.tables.specs.Planning.{first-refusal, scans-out}
+use Rattle.printing.specs.Parts.{Put}
 use Rattle.reading.specs.Fed.{Fed}
 use Rattle.reading.specs.declared.State.{State}
 use Rattle.workbench.specs.Asked.{Asked, asked, bad-input, out-of-range, too-large, to-plan, range-checks, most-cells}
@@ -68,22 +68,18 @@ Judged n s (verdict.OutOfRange r) = Asks n s (out-of-range r)
 Judged n s verdict.TooLarge = Asks n s too-large
 Judged n s (verdict.Ready k) = Fits n k × Asks n s (plan-asked n k)
 
--- a line was put at `at` into what stood in the buffer before, r is the place after it, and it is no longer than this
-pub record Put (before : List ℕ) (at : ℕ) (line after : List ℕ) (r most : ℕ) : Type 0 where
-  pub so : after ≡ sets before at line
-  pub end : r ≡ at + length line
-  pub short : length line ≤ most
-
--- the line that was put is the plan's
+-- the line that was put is the plan's, and it leaves room for the other
 pub record PutAve (N Q law B : ℕ) (rates distortions before : List ℕ) (at : ℕ) (after : List ℕ) (r : ℕ) : Type 0 where
   pub line : List ℕ
   pub right : AveLine N Q law B rates distortions line
-  pub put : Put before at line after r 4352
+  pub put : Put before at line after r
+  pub short : r ≤ at + 4352
 
 pub record PutMinmax (N Q law B : ℕ) (rates distortions before : List ℕ) (at : ℕ) (after : List ℕ) (r : ℕ) : Type 0 where
   pub line : List ℕ
   pub right : MinmaxLine N Q law B rates distortions line
-  pub put : Put before at line after r 4352
+  pub put : Put before at line after r
+  pub short : r ≤ at + 4352
 
 -- the first r bytes are what is written for this
 abbrev pub Holds : Asked → ℕ → List ℕ → Type 0

@@ -8,29 +8,10 @@ use printing::line::ave_line;
 use printing::line::minmax_line;
 use tables::refusal::Refusal;
 ghost use mathlib.Core.Path.{_≡_};
-ghost use Prim.Native.Nat.{_+_, _*_, _≤_};
+ghost use Prim.Native.Nat.{_+_, _≤_};
 ghost use lib.ListN.{length};
-ghost use Rattle.planner.specs.Promise.{«average-reply», «minmax-reply»};
-ghost use Rattle.printing.specs.Lines.{«ave-line», «minmax-line»};
 ghost use Rattle.workbench.specs.Asked.{«out-of-range»};
-ghost use Rattle.workbench.specs.Parts.{Fits, Put, PutAve, PutMinmax, Holds, «plan-asked»};
-
-// A line is at most 256 bytes beside the settings, and at most 4 for each setting: what follows it has its room.
-fn put_ave(out: &mut [u8], at: usize, answer: AverageAnswer, plan: &[u8]) -> usize
-    requires { ⌜ at + (256 + 4 * length (now plan)) ≤ length (now out) ⌝ }
-    ensures { λ r. ⌜ Put (now (out .entry)) at (ave-line (average-reply answer) (now (plan .entry))) (now (out .exit)) r
-        (256 + 4 * length (now (plan .entry))) ⌝ }
-{
-    ave_line(out, at, answer, plan)
-}
-
-fn put_minmax(out: &mut [u8], at: usize, answer: MinmaxAnswer, plan: &[u8]) -> usize
-    requires { ⌜ at + (256 + 4 * length (now plan)) ≤ length (now out) ⌝ }
-    ensures { λ r. ⌜ Put (now (out .entry)) at (minmax-line (minmax-reply answer) (now (plan .entry))) (now (out .exit)) r
-        (256 + 4 * length (now (plan .entry))) ⌝ }
-{
-    minmax_line(out, at, answer, plan)
-}
+ghost use Rattle.workbench.specs.Parts.{Fits, PutAve, PutMinmax, Holds, «plan-asked»};
 
 // The first line of a table that is planned, with buffers of zeros that are large enough for every such table.
 fn average_at(
@@ -59,7 +40,7 @@ fn average_at(
         &mut scratch,
     );
     let planned = scans as usize;
-    put_ave(out, at, answer, &plan[..planned])
+    ave_line(out, at, answer, &plan[..planned])
 }
 
 // And the second.
@@ -89,7 +70,7 @@ fn minmax_at(
         &mut scratch,
     );
     let planned = scans as usize;
-    put_minmax(out, at, answer, &plan[..planned])
+    minmax_line(out, at, answer, &plan[..planned])
 }
 
 // Both lines of a table that is planned: the first four numbers, and the cells of each table after them.
@@ -124,6 +105,6 @@ pub fn refused(out: &mut [u8], r: Refusal) -> usize
     requires { ⌜ 8704 ≤ length (now out) ⌝ }
     ensures { λ k. ⌜ Holds (out-of-range r) k (now (out .exit)) ⌝ }
 {
-    let second = put_ave(out, 0, AverageAnswer::Refused(r), b"");
-    put_minmax(out, second, MinmaxAnswer::Refused(r), b"")
+    let second = ave_line(out, 0, AverageAnswer::Refused(r), b"");
+    minmax_line(out, second, MinmaxAnswer::Refused(r), b"")
 }

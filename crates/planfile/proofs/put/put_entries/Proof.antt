@@ -10,7 +10,7 @@ use denote.Ref.{now}
 use Rattle.planfile.specs.File.{entry-of}
 use Rattle.planfile.specs.Packed.{with-half, place-of}
 use Rattle.planfile.proofs.PutLaws.{kept, entered, Entered, entered-none, entered-more, entered-all, length-entered}
-use Rattle.planfile.proofs.PutLaws.{entry-in, entry-out, entry-small}
+use Rattle.planfile.proofs.PutLaws.{entry-in, entry-out, setting-small}
 use Rattle.planfile.proofs.put.put_entries.Statement.{statement}
 use Rattle.planfile.proofs.put.put_entries.Tie as tie
 
@@ -90,7 +90,7 @@ loop-again c =
               ∙ ap (λ f. set f (place-of j) (with-half (getD f (place-of j) 0) (j % 2) (getD s j 0))) (l .inv .1 .1 .1 d p)
               ∙ ap (λ (v : ℕ). set (entered d e (a .b) j) (place-of j) (with-half (getD (entered d e (a .b) j) (place-of j) 0) (j % 2) v))
               (entry-in (a .scans) s j (c .before .before .before .before .before .before .loop-test .taken))
-              ∙ entered-more d e (entry-small (a .scans) s (pre .1 .1)) (a .b) j
+              ∙ entered-more d e (setting-small (a .scans) s (pre .1 .1)) (a .b) j
               (omega (arith, kept d at (replicate 504 0) p, kept (now (a .file)) at (replicate 504 0) zeros)) (omega arith) g
               ∙ ap (entered d e (a .b)) (sym (add-one j)),
         ),

@@ -1,4 +1,5 @@
 -- `printing::line::ave_line` meets its contract: the first word, what the answer says, and the line's end. Assumes nothing.
+use native.Mathlib.Omega.{arith}
 use denote.Ref.{now}
 use Rattle.printing.specs.Lines.{ave, line-end, ave-line}
 use Rattle.printing.proofs.PutLaws.{put-so, so-put, next}
@@ -32,7 +33,7 @@ returns c =
     let word = said .before .before .before .before in
     let a = word .before .before .before .before .before .args in
     so-put (now (a .out)) (a .at)
-    (next (next (put-so ave (word .put .ensures)) (said .put-average-answer .ensures .0)) (put-so line-end (end .put2 .ensures)))
+    (next (next (put-so ave (word .put .ensures)) (said .put-average-answer .ensures .0)) (put-so line-end (end .put2 .ensures))) (omega arith)
 
 pub ave-line-spec : {M : Type 1} → statement M
 ave-line-spec =

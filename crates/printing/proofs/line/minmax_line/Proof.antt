@@ -1,4 +1,5 @@
 -- `printing::line::minmax_line` meets its contract: the first word, what the answer says, and the line's end. Assumes nothing.
+use native.Mathlib.Omega.{arith}
 use denote.Ref.{now}
 use Rattle.printing.specs.Lines.{minmax, line-end, minmax-line}
 use Rattle.printing.proofs.PutLaws.{put-so, so-put, next}
@@ -32,7 +33,7 @@ returns c =
     let word = said .before .before .before .before in
     let a = word .before .before .before .before .before .args in
     so-put (now (a .out)) (a .at)
-    (next (next (put-so minmax (word .put .ensures)) (said .put-minmax-answer .ensures .0)) (put-so line-end (end .put2 .ensures)))
+    (next (next (put-so minmax (word .put .ensures)) (said .put-minmax-answer .ensures .0)) (put-so line-end (end .put2 .ensures))) (omega arith)
 
 pub minmax-line-spec : {M : Type 1} → statement M
 minmax-line-spec =

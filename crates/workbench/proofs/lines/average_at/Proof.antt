@@ -1,7 +1,7 @@
 -- `workbench::lines::average_at` meets its contract: the line is that of the answer that the call gave. Assumes nothing.
 use native.Mathlib.Omega.{arith}
 use borrow.Author.Needs.{needs}
-use Rattle.workbench.proofs.LineLaws.{prefix-long, few-bytes, ave-put}
+use Rattle.workbench.proofs.LineLaws.{line-put, prefix-long, few-bytes, ave-put}
 use Rattle.workbench.proofs.lines.average_at.Statement.{statement}
 use Rattle.workbench.proofs.lines.average_at.Tie as tie
 
@@ -17,11 +17,11 @@ average-plan-requires c κs = search needs
 array-share-prefix-plan : tie.Need-array-share-prefix-plan
 array-share-prefix-plan c = search needs
 
-slice-aggregate-put-ave : tie.Need-slice-aggregate-put-ave
-slice-aggregate-put-ave c = prefix-long _ _ (omega (arith, c .before .before .before .plan2 .given))
+slice-aggregate-ave-line : tie.Need-slice-aggregate-ave-line
+slice-aggregate-ave-line c = prefix-long _ _ (omega (arith, c .before .before .before .plan2 .given))
 
-put-ave-requires : tie.Need-put-ave-requires
-put-ave-requires c κs =
+ave-line-requires : tie.Need-ave-line-requires
+ave-line-requires c κs =
     let called = c .before .before .before .before in
     let start = called .before .before .before .before .before .before in
     omega (arith, few-bytes (start .args .scans) (called .average-plan .last .1 .1 .1 .1 .1 .1 .0) (start .pre .0))
@@ -32,8 +32,9 @@ same-length c = search needs
 returns : tie.Need-returns
 returns c =
     let called = c .before .before .before .before .before .before .before in
+    let line = c .before .before .ave-line .ensures in
     ave-put (called .before .before .before .before .before .before .pre .0) (called .average-plan .result) (called .average-plan .ensures)
-    (c .before .before .put-ave .ensures)
+    (line-put _ line) (line .1 .1)
 
 pub average-at-spec : {M : Type 1} → statement M
 average-at-spec =
@@ -43,7 +44,7 @@ average-at-spec =
     slice-aggregate-average-plan-2
     average-plan-requires
     array-share-prefix-plan
-    slice-aggregate-put-ave
-    put-ave-requires
+    slice-aggregate-ave-line
+    ave-line-requires
     same-length
     returns)

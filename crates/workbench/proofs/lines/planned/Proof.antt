@@ -4,7 +4,7 @@ use native.Mathlib.Omega.{arith}
 use denote.Ref.{now}
 use borrow.Author.Needs.{needs}
 use Rattle.tables.proofs.Tests.{in-range}
-use Rattle.workbench.proofs.LineLaws.{read-asked, room-after, planned-put}
+use Rattle.workbench.proofs.LineLaws.{read-asked, planned-put}
 use Rattle.workbench.proofs.lines.planned.Statement.{statement}
 use Rattle.workbench.proofs.lines.planned.Tie as tie
 
@@ -70,7 +70,7 @@ minmax-at-requires : tie.Need-minmax-at-requires
 minmax-at-requires c κs =
     let first = c .before .before .before in
     let read = first .before .before .before .before .before .before .before .before .before .before in
-    (small read, room-after (first .average-at .ensures .put) (read .before .before .before .before .pre .1))
+    omega (arith, small read, first .average-at .ensures .short)
 
 same-length : tie.Need-same-length
 same-length c = search needs
