@@ -1,9 +1,9 @@
 -- Two problems with the same allowed sequences and, on those, the same totals have the same plans and the same refusals. Assumes nothing.
-use mathlib.Core.Path.{_≡_, refl, sym, ap₂}
+use mathlib.Core.Path.{_≡_, sym}
 use mathlib.Core.List.{List}
-use Prim.Native.Nat.{ℕ, _+_, _*_, _≤_}
+use Prim.Native.Nat.{ℕ, _≤_}
 use native.Mathlib.Omega.{arith}
-use Rattle.criteria.specs.Order.{Then, Best}
+use Rattle.criteria.specs.Order.{Best}
 use Rattle.criteria.specs.Choice.{Problem, UnderCeiling, InBudget, Ceiling, cost, Multiplier, Average, AverageFloor, Minmax, NoneAllowed, NoneWithin}
 
 pub record Agree (P P′ : Problem) : Type 0 where

@@ -1,14 +1,13 @@
 -- What a multiplier plan proves of every allowed sequence, and of every other multiplier (demand 3). Assumes nothing.
 use mathlib.Core.Path.{_≡_, refl, ap}
-use mathlib.Core.Logic.{_⊎_, inl, inr}
 use mathlib.Core.List.{List}
 use Prim.Native.Nat.{ℕ, zero, suc, _+_, _-_, _*_, _≤_, _<_}
-use native.Mathlib.Nat.{mul-le-mul-left, mul-le-mul-right, mul-lt-mul-of-pos-left, le-of-mul-le-mul-left}
+use native.Mathlib.Nat.{mul-le-mul-left, mul-lt-mul-of-pos-left, le-of-mul-le-mul-left}
 use native.Mathlib.Decide.{decLe, decLt}
 use native.Mathlib.Omega.{arith}
-use Rattle.criteria.specs.Order.{Then, lower, tie, Best}
+use Rattle.criteria.specs.Order.{Then, lower, tie}
 use Rattle.criteria.specs.Choice.{Problem, Multiplier, Average, Floor, cost}
-use Rattle.criteria.proofs.Order.{then-le, then-tie}
+use Rattle.criteria.proofs.Order.{then-le}
 use Rattle.criteria.proofs.Fraction.{rearrange, rearrange-strict}
 
 module _ (P : Problem) where

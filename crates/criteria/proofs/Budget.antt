@@ -1,6 +1,6 @@
 -- More budget never hurts: the average and the minmax plans of one problem at budgets B and B′, B ≤ B′ (document 02, [14]). Assumes nothing.
 use mathlib.Core.List.{List}
-use Prim.Native.Nat.{ℕ, _+_, _*_, _≤_}
+use Prim.Native.Nat.{ℕ, _*_, _≤_}
 use native.Mathlib.Nat.{mul-le-mul-left, le-trans}
 use native.Mathlib.Omega.{arith}
 use Rattle.criteria.specs.Choice.{Problem, Average, AverageFloor, Minmax}

@@ -1,16 +1,15 @@
 -- Looking for a proof of each kind of answer by trying all sequences of a finite problem: `some` holds a proof. Assumes nothing.
-use mathlib.Core.Path.{_≡_, refl, ap}
 use mathlib.Core.Option.{Option, none, some}
 use mathlib.Core.Bool.{Bool, true, false}
 use mathlib.Core.List.{List, [], _∷_, List·Memᴰ, List·Memᴰ·not-nil}
-use Prim.Native.Nat.{ℕ, zero, suc, pred, _+_, _*_, _≤_, _<_}
+use Prim.Native.Nat.{ℕ, zero, suc, _+_, _*_, _≤_, _<_}
 use native.Mathlib.Nat.{mul-le-mul-left, le-trans, not-le-of-lt}
 use native.Mathlib.Decide.{decLe, decLt, ℕ-discrete}
 use native.Mathlib.Omega.{arith}
 use lib.Dec.{T}
 use Rattle.criteria.specs.Order.{Then, lower, tie, First, Best}
 use Rattle.criteria.specs.Fraction.{gcd, Lowest}
-use Rattle.criteria.specs.Choice.{Problem, UnderCeiling, Ceiling, Multiplier, Average, AverageFloor, Minmax, NoneWithin, Floor, cost}
+use Rattle.criteria.specs.Choice.{Problem, Ceiling, Multiplier, Average, AverageFloor, Minmax, NoneWithin, Floor, cost}
 use Rattle.criteria.proofs.Order.{Ahead}
 use Rattle.criteria.proofs.Fraction.{lowest-gcd}
 use Rattle.criteria.proofs.Bound.{Certificate, at-zero, tied, certified}

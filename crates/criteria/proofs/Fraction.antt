@@ -1,7 +1,7 @@
 -- Laws of products and fractions of natural numbers. Assumes nothing.
-use mathlib.Core.Path.{_≡_, refl, sym, _∙_, ap, subst}
+use mathlib.Core.Path.{_≡_, refl, ap}
 use Prim.Native.Nat.{ℕ, zero, suc, _+_, _-_, _*_, _/_, _%_, _≤_, _<_, _∣_}
-use native.Mathlib.Nat.{dvd-antisymm, dvd-mul-left, dvd-mul-right, dvd-zero, dvd-refl, dvd-add, dvd-add-iff-right, dvd-mul-left-of-dvd, dvd-mod-iff, mod-lt, mod-add-div', eq-of-mul-eq-mul-left, eq-one-of-dvd-one}
+use native.Mathlib.Nat.{dvd-antisymm, dvd-mul-left, dvd-mul-right, dvd-zero, dvd-refl, dvd-add-iff-right, dvd-mul-left-of-dvd, dvd-mod-iff, mod-lt, mod-add-div', eq-of-mul-eq-mul-left, eq-one-of-dvd-one}
 use native.Mathlib.Omega.{arith}
 use Rattle.criteria.specs.Fraction.{Lowest, gcd, gcd-by}
 

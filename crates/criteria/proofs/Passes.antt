@@ -1,12 +1,11 @@
 -- The plans of document 02, [13]: they end, the last is the average plan, and their count is settled. Assumes nothing.
-use mathlib.Core.Path.{_≡_, refl, sym, ap, _∙_, subst₂}
+use mathlib.Core.Path.{_≡_, refl, ap}
 use mathlib.Core.Logic.{_≢_}
 use mathlib.Core.List.{List}
 use Prim.Native.Nat.{ℕ, zero, suc, _+_, _-_, _*_, _/_, _≤_, _<_}
-use native.Mathlib.Nat.{mul-le-mul-left, le-of-mul-le-mul-left, lt-of-mul-lt-mul-left}
-use native.Mathlib.Decide.{decLe, decLt, ℕ-discrete}
+use native.Mathlib.Nat.{mul-le-mul-left, le-of-mul-le-mul-left}
+use native.Mathlib.Decide.{decLe, decLt}
 use native.Mathlib.Omega.{arith}
-use Rattle.criteria.specs.Order.{Then, lower, tie, First, Best}
 use Rattle.criteria.specs.Fraction.{gcd}
 use Rattle.criteria.specs.Choice.{Problem, InBudget, Multiplier, Average, cost}
 use Rattle.criteria.specs.Passes.{Slope, Slopes, last, fitting, over, Thriftiest, Passes, none-allowed, none-fits, zero-fits, by-slopes}

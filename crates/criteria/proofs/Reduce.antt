@@ -1,10 +1,10 @@
 -- A plan, its certificate and its leastness do not change when its fraction is reduced. Assumes nothing.
-use mathlib.Core.Path.{_≡_, refl, sym, ap}
+use mathlib.Core.Path.{_≡_, ap}
 use mathlib.Core.List.{List}
-use Prim.Native.Nat.{ℕ, zero, suc, _+_, _*_, _/_, _≤_, _<_, _∣_}
+use Prim.Native.Nat.{ℕ, _*_, _/_, _≤_}
 use native.Mathlib.Nat.{lt-of-mul-lt-mul-left, eq-of-mul-eq-mul-left, mul-div-cancel', mul-dvd-mul-left, dvd-mul-left, dvd-of-mul-dvd-mul-left, pos-of-dvd-of-pos, eq-one-of-dvd-one}
 use native.Mathlib.Omega.{arith}
-use Rattle.criteria.specs.Order.{Then, lower, tie, First, Best}
+use Rattle.criteria.specs.Order.{Then, lower, tie}
 use Rattle.criteria.specs.Fraction.{gcd, Lowest}
 use Rattle.criteria.specs.Choice.{Problem, Multiplier, Average, cost}
 use Rattle.criteria.proofs.Fraction.{Divisor, gcd-is}

@@ -1,12 +1,11 @@
 -- The average plan's multiplier is made of small numbers: n is at most a distortion, d at most a rate (or 1). Assumes nothing.
-use mathlib.Core.Path.{_≡_, refl, ap}
+use mathlib.Core.Path.{_≡_, ap}
 use mathlib.Core.List.{List}
-use Prim.Native.Nat.{ℕ, zero, suc, _+_, _-_, _*_, _≤_, _<_, _∣_}
-use native.Mathlib.Nat.{le-of-dvd, dvd-mul-left, dvd-mul-right, dvd-zero, dvd-refl, mul-lt-mul-of-pos-left, lt-of-mul-lt-mul-left, mul-le-mul-left}
-use native.Mathlib.Decide.{decLt}
+use Prim.Native.Nat.{ℕ, zero, suc, _+_, _-_, _*_, _≤_, _<_}
+use native.Mathlib.Nat.{le-of-dvd, dvd-mul-right, dvd-zero, dvd-refl, mul-lt-mul-of-pos-left, lt-of-mul-lt-mul-left}
 use native.Mathlib.Omega.{arith}
 use Rattle.criteria.specs.Fraction.{Lowest}
-use Rattle.criteria.specs.Choice.{Problem, Multiplier, Average, cost}
+use Rattle.criteria.specs.Choice.{Problem, Average}
 use Rattle.criteria.proofs.Fraction.{lowest-divides}
 use Rattle.criteria.proofs.Bound.{Certificate, at-zero, tied}
 

@@ -1,9 +1,8 @@
 -- Each of the ways to choose settles its answer. Assumes nothing.
 use mathlib.Core.Path.{_≡_}
 use mathlib.Core.List.{List}
-use Prim.Native.Nat.{ℕ, _+_, _*_, _≤_}
+use Prim.Native.Nat.{ℕ}
 use native.Mathlib.Omega.{arith}
-use Rattle.criteria.specs.Order.{Best}
 use Rattle.criteria.specs.Choice.{Problem, Ceiling, Multiplier, Average, AverageFloor, Minmax, Floor}
 use Rattle.criteria.proofs.Order.{best-unique}
 use Rattle.criteria.proofs.Fraction.{lowest-unique}

@@ -1,5 +1,4 @@
 -- Document 01, "Four ways to choose", over any problem. Assumes nothing.
-use mathlib.Core.Path.{_≡_}
 use mathlib.Core.List.{List}
 use Prim.Native.Nat.{ℕ, _+_, _*_, _≤_}
 use Rattle.criteria.specs.Order.{Best}

@@ -2,14 +2,14 @@
 use mathlib.Core.Path.{_≡_, refl, sym, ap, _∙_}
 use mathlib.Core.Bool.{Bool, true, false, not, _||_}
 use mathlib.Core.Option.{Option, none, some}
-use mathlib.Core.List.{List, [], _∷_, _++_}
-use Prim.Native.Nat.{ℕ, zero, suc, _+_, _*_, _-_, _/_, _≤_, _<_}
+use mathlib.Core.List.{List, _++_}
+use Prim.Native.Nat.{ℕ, _+_, _*_, _-_, _/_, _≤_, _<_}
 use native.Mathlib.Nat.{zero-add}
 use native.Mathlib.Omega.{arith}
 use lib.Dec.{ltb, eqb}
-use lib.ListN.{length, take, drop}
+use lib.ListN.{length, drop}
 use lib.Seq.{sets, sets-eq}
-use borrow.Author.Tests.{eqb-true, ltb-false}
+use borrow.Author.Tests.{eqb-true}
 use Rattle.tables.specs.declared.refusal.Refusal.{Refusal}
 use Rattle.tables.specs.declared.refusal.Refusal.the-variants as refusal
 use Rattle.tables.specs.Refusals.{refused, answered}
@@ -24,7 +24,7 @@ use Rattle.planfile.specs.Rules.{or-else, when, found, first-from, entry
 use Rattle.planfile.specs.Stages.{ended, why-of}
 use Rattle.planfile.specs.Reading.{length-out, bad-block, broken-field, bad-entry, fields-of, marks-of, other-length, values-of, entries, read-refusal, read-of, settings-after}
 use Rattle.planfile.proofs.CheckLaws.{none-when}
-use Rattle.planfile.proofs.FieldLaws.{Kept, kept, limited}
+use Rattle.planfile.proofs.FieldLaws.{kept, limited}
 use Rattle.planfile.proofs.BlockLaws.{right-length, within, few-blocks}
 use Rattle.planfile.proofs.HalfLaws.{length-entries}
 

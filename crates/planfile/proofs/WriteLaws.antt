@@ -1,13 +1,13 @@
 -- The writer's stages, and its answer. Assumes nothing.
 use mathlib.Core.Path.{_≡_, refl, sym, ap, _∙_}
-use mathlib.Core.Bool.{Bool, true, false, not, _||_}
+use mathlib.Core.Bool.{true, false}
 use mathlib.Core.Option.{Option, none, some}
 use mathlib.Core.List.{List, [], _∷_, _++_, append-nil, append-assoc}
-use Prim.Native.Nat.{ℕ, zero, suc, _+_, _*_, _≤_, _<_}
+use Prim.Native.Nat.{ℕ, zero, suc, _+_, _≤_, _<_}
 use native.Mathlib.Nat.{zero-add}
 use native.Mathlib.Omega.{arith}
 use lib.Dec.{ltb}
-use lib.ListN.{length, take, drop, getD}
+use lib.ListN.{length, drop, getD}
 use lib.Seq.{sets, sets-eq}
 use borrow.Author.Tests.{ltb-false, lt-ltb}
 use Rattle.tables.specs.declared.refusal.Refusal.{Refusal}
@@ -16,11 +16,11 @@ use Rattle.tables.specs.Refusals.{refused, answered}
 use Rattle.tables.specs.Planning.{first-refusal, scans-out}
 use Rattle.tables.proofs.Tests.{in-range, neither}
 use Rattle.planfile.specs.declared.fields.Fields.{Fields}
-use Rattle.planfile.specs.File.{sealed, header, data-block, data-blocks, data-from, entry-of, file-of, file-length, either}
+use Rattle.planfile.specs.File.{sealed, data-block, data-from, file-of, file-length, either}
 use Rattle.planfile.specs.Rules.{or-else, when, found, first-from, entry-broken, header-rules}
 use Rattle.planfile.specs.Writing.{no-marks, write-short, write-refusal, write-of, file-after}
 use Rattle.planfile.proofs.CheckLaws.{none-when}
-use Rattle.planfile.proofs.FieldLaws.{Kept, kept, Writable, writable, entry-small}
+use Rattle.planfile.proofs.FieldLaws.{kept, writable, entry-small}
 use Rattle.planfile.proofs.Back.{length-back}
 
 -- what is left of the writer's stages

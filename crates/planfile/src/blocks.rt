@@ -4,7 +4,7 @@ use crate::bytes::sum_of;
 use crate::stage::Stage;
 use tables::refusal::Refusal;
 ghost use mathlib.Core.Path.{_≡_};
-ghost use Prim.Native.Nat.{ℕ, _+_, _*_, _≤_, _<_};
+ghost use Prim.Native.Nat.{_+_, _*_, _≤_, _<_};
 ghost use lib.ListN.{length};
 ghost use Rattle.tables.specs.declared.refusal.Refusal.«the-variants» as refusal;
 ghost use Rattle.planfile.specs.Reading.{«length-out», «block-broken», «bad-block»};

@@ -5,7 +5,7 @@ use crate::stage::Stage;
 use tables::law::keeps;
 use tables::refusal::Refusal;
 ghost use mathlib.Core.Path.{_≡_};
-ghost use Prim.Native.Nat.{ℕ, _+_, _*_, _-_, _/_, _≤_, _<_};
+ghost use Prim.Native.Nat.{_+_, _*_, _-_, _/_, _≤_, _<_};
 ghost use lib.ListN.{length, getD};
 ghost use Rattle.tables.specs.declared.refusal.Refusal.«the-variants» as refusal;
 ghost use Rattle.planfile.specs.File.{«entry-at»};

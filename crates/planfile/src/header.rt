@@ -10,7 +10,7 @@ use crate::stage::Stage;
 use weights::cost::Dist;
 use weights::cost::Rate;
 ghost use mathlib.Core.Path.{_≡_};
-ghost use Prim.Native.Nat.{ℕ, _+_, _≤_};
+ghost use Prim.Native.Nat.{_+_, _≤_};
 ghost use lib.ListN.{length, replicate};
 ghost use Rattle.planfile.specs.Bytes.{part, «number-at»};
 ghost use Rattle.planfile.specs.File.{letters};

@@ -1,6 +1,6 @@
 // Settings two to a byte, the even entry in the low four bits.
 ghost use mathlib.Core.Path.{_≡_};
-ghost use Prim.Native.Nat.{ℕ, _+_, _*_, _/_, _%_, _≤_, _<_};
+ghost use Prim.Native.Nat.{_+_, _*_, _/_, _%_, _≤_, _<_};
 ghost use lib.ListN.{length, getD, set};
 ghost use Rattle.planfile.specs.File.{«entry-at»};
 ghost use Rattle.planfile.specs.Packed.{«with-half», «place-of»};

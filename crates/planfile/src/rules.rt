@@ -11,7 +11,6 @@ use tables::refusal::Refusal;
 use tables::room::outside;
 ghost use mathlib.Core.Path.{_≡_};
 ghost use mathlib.Core.Bool.{_||_};
-ghost use lib.Dec.{ltb};
 ghost use Rattle.tables.specs.Planning.{«first-refusal», «law-out»};
 ghost use Rattle.planfile.specs.Rules.{«header-rules», «kind-out», «n-broken», «d-broken», «rate-broken», «peak-broken», «floor-broken»};
 ghost use Rattle.planfile.specs.Stages.{ended};

@@ -1,22 +1,21 @@
 -- The slopes of the average call: each plan lies between the two before it, the last is the average plan, and its answer is in lowest terms
 -- with its floor. Assumes nothing.
 use mathlib.Core.Path.{_≡_, refl, sym, ap, _∙_}
-use mathlib.Core.Logic.{_⊎_, inl, inr}
+use mathlib.Core.Logic.{inl, inr}
 use mathlib.Core.Bool.{Bool, true, false}
 use mathlib.Core.List.{List, [], _∷_}
-use Prim.Native.Nat.{ℕ, _+_, _-_, _*_, _/_, _≤_, _<_, _^_, _∣_}
+use Prim.Native.Nat.{ℕ, _+_, _-_, _*_, _/_, _≤_, _<_, _^_}
 use native.Mathlib.Nat.{mul-le-mul-left, mul-le-mul-right, div-le-self, dvd-mul-left, pos-of-dvd-of-pos, mul-div-cancel', div-eq-of-lt}
 use native.Mathlib.Omega.{arith}
 use lib.Dec.{eqb}
 use borrow.Author.Tests.{eqb-true, eqb-false}
-use Rattle.criteria.specs.Choice.{Problem, Multiplier, Average, AverageFloor, Floor, cost}
+use Rattle.criteria.specs.Choice.{Problem, Multiplier, Average, Floor, cost}
 use Rattle.criteria.specs.Fraction.{gcd}
 use Rattle.criteria.specs.Passes.{Slope, last}
 use Rattle.criteria.proofs.Fraction.{gcd-is}
 use Rattle.criteria.proofs.Bound.{Certificate, at-zero, tied, cheapest}
-use Rattle.criteria.proofs.Reduce.{average-reduced}
 use Rattle.criteria.proofs.Exist.{floor-value}
-use Rattle.criteria.proofs.Passes.{Origin, thrifty, planned, Ended, slopes-end, pareto, climbs, descends, origin-allowed}
+use Rattle.criteria.proofs.Passes.{thrifty, planned, Ended, slopes-end, pareto, climbs, descends, origin-allowed}
 use Rattle.tables.specs.Limits.{most-term, most-total}
 use Rattle.trellis.specs.declared.walk.Totals.{Totals}
 use Rattle.trellis.specs.Chosen.{chosen}
@@ -24,7 +23,7 @@ use Rattle.trellis.specs.Walked.{TotalsOf}
 use Rattle.planner.specs.declared.answer.AveragePlan.{AveragePlan}
 use Rattle.planner.specs.declared.average.Bracket.{Bracket}
 use Rattle.planner.specs.Promise.{IsAveragePlan}
-use Rattle.planner.specs.Search.{Framed, MultiplierPass, Bracketed, SlopeOf, SlopeEnd, ThriftyTotals}
+use Rattle.planner.specs.Search.{MultiplierPass, Bracketed, SlopeOf, ThriftyTotals}
 use Rattle.planner.specs.Average.{Narrowed, Reduced}
 
 -- the totals of a sequence at a multiplier

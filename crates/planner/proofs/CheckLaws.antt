@@ -1,13 +1,11 @@
 -- The checks 1 to 7: the refusal of each way out, and what a call that passes them knows. Assumes nothing.
-use mathlib.Core.Path.{_≡_, refl}
-use mathlib.Core.Bool.{Bool, true, false, _||_}
-use mathlib.Core.Option.{Option, none}
+use mathlib.Core.Path.{_≡_}
+use mathlib.Core.Bool.{Bool, true, false}
+use mathlib.Core.Option.{none}
 use mathlib.Core.List.{List}
 use Prim.Native.Nat.{ℕ, _*_, _≤_}
-use native.Mathlib.Omega.{arith}
 use lib.ListN.{length}
 use borrow.Author.Tests.{eqb-true, ltb-false, not-false}
-use Rattle.tables.specs.declared.refusal.Refusal.{Refusal}
 use Rattle.tables.specs.declared.refusal.Refusal.the-variants.{Scans, Settings, StepLaw, Multiplier, Lengths, Buffer, Cell}
 use Rattle.tables.specs.declared.legal.Legality.{Legality}
 use Rattle.tables.specs.declared.legal.Legality.the-variants.{Legal, Illegal}

@@ -1,16 +1,16 @@
 -- What a pass finds, in the words of the criteria: one key stands for two, and the sequences of a pass are those under its ceiling.
 -- Assumes nothing.
 use mathlib.Core.Path.{_≡_, refl, ap}
-use mathlib.Core.Bool.{Bool, true, false}
+use mathlib.Core.Bool.{Bool}
 use mathlib.Core.List.{List, [], _∷_, _++_}
-use Prim.Native.Nat.{ℕ, suc, _+_, _*_, _≤_, _<_, max}
+use Prim.Native.Nat.{ℕ, suc, _+_, _≤_, _<_}
 use native.Mathlib.Omega.{arith}
-use lib.ListN.{length, getD, drop, replicate, length-drop}
+use lib.ListN.{length, drop, replicate, length-drop}
 use lib.Seq.{ext-getD, getD-drop}
-use Rattle.criteria.specs.Choice.{Problem, UnderCeiling, InBudget, Ceiling, Multiplier, NoneAllowed, NoneWithin}
+use Rattle.criteria.specs.Choice.{Problem, UnderCeiling, InBudget, Ceiling, NoneWithin}
 use Rattle.criteria.specs.Passes.{Thriftiest}
 use Rattle.tables.specs.Limits.{most-cell, most-total}
-use Rattle.tables.specs.Series.{Series, Kept, largest, problem}
+use Rattle.tables.specs.Series.{Series, Kept, largest}
 use Rattle.tables.specs.Tables.{Table, table, series, planning}
 use Rattle.tables.proofs.Totals.{Small, table-small, rate-small, distortion-small, peak-small}
 use Rattle.criteria.proofs.Agree.{best-same}
@@ -21,7 +21,7 @@ use Rattle.trellis.specs.declared.least.Rule.{Rule}
 use Rattle.trellis.specs.Chosen.{chosen}
 use Rattle.trellis.specs.Walked.{TotalsOf}
 use Rattle.trellis.specs.declared.walk.Totals.{Totals}
-use Rattle.trellis.specs.Pass.{Fit, under, asked, weighed, Passed}
+use Rattle.trellis.specs.Pass.{Fit, under, asked, Passed}
 use Rattle.trellis.proofs.WalkLaws.{fit-legal}
 use Rattle.planner.specs.Search.{no-ceiling, Framed, ThriftyPass, MultiplierPass, ThriftyTotals}
 

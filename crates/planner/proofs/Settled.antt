@@ -1,28 +1,28 @@
 -- What the promises of the planning calls settle: one answer and one content of every buffer for equal inputs; 8 and 9 exactly when they are
 -- true; demand 3 of every average plan; and no answer depends on a distortion beside a forbidden rate. Assumes nothing.
-use mathlib.Core.Path.{_≡_, refl, sym, ap, _∙_}
-use mathlib.Core.Logic.{_↔_, _⊎_, inl, inr}
+use mathlib.Core.Path.{_≡_, sym, ap, _∙_}
+use mathlib.Core.Logic.{_↔_}
 use mathlib.Core.Bool.{Bool, true, false}
-use mathlib.Core.Option.{Option, none, some}
-use mathlib.Core.List.{List, [], _∷_}
+use mathlib.Core.Option.{none, some}
+use mathlib.Core.List.{List, _∷_}
 use Prim.Native.Nat.{ℕ, suc, _≤_}
 use native.Mathlib.Omega.{arith}
-use lib.ListN.{length, getD}
-use Rattle.criteria.specs.Choice.{Problem, UnderCeiling, InBudget, Ceiling, Multiplier, Average, AverageFloor, Minmax, NoneAllowed, NoneWithin}
+use lib.ListN.{getD}
+use Rattle.criteria.specs.Choice.{Problem, UnderCeiling, InBudget, Multiplier, NoneAllowed, NoneWithin}
 use Rattle.criteria.specs.Demand.{Demand}
 use Rattle.criteria.proofs.Unique.{ceiling-unique, multiplier-unique, average-unique, average-floor-unique, minmax-unique}
 use Rattle.criteria.proofs.Ceilings.{minmax-fits}
 use Rattle.criteria.proofs.Demand.{demand}
-use Rattle.criteria.proofs.Agree.{Agree, agree-sym, ceiling-agrees, multiplier-agrees, average-agrees, average-floor-agrees, minmax-agrees, none-allowed-agrees, none-under-ceiling-agrees, none-in-budget-agrees}
+use Rattle.criteria.proofs.Agree.{Agree, ceiling-agrees, multiplier-agrees, average-agrees, average-floor-agrees, minmax-agrees, none-allowed-agrees, none-under-ceiling-agrees, none-in-budget-agrees}
 use Rattle.tables.specs.declared.refusal.Refusal.{Refusal}
 use Rattle.tables.specs.declared.refusal.Refusal.the-variants as refusal
 use Rattle.tables.specs.Refusals.{Reply, refused, answered, numberOf}
-use Rattle.tables.specs.Tables.{table, planning}
+use Rattle.tables.specs.Tables.{table}
 use Rattle.tables.specs.Legal.{SameShown}
-use Rattle.tables.specs.Planning.{Asked, Unsound, early, illegal, Sound, or-later, early-refusal, problem-of, multiplier-out, scans-out, settings-out, law-out, lengths-out, buffers-short}
+use Rattle.tables.specs.Planning.{Asked, Unsound, early, illegal, Sound, or-later, early-refusal, problem-of, scans-out, settings-out, law-out, lengths-out, buffers-short}
 use Rattle.tables.proofs.LegalLaws.{lowest-unique, not-both}
 use Rattle.tables.proofs.RefusalLaws.{refused-unique, answered-or-refused}
-use Rattle.tables.proofs.Hidden.{shown-agrees, shown-sym, all-legal-same, lowest-illegal-same}
+use Rattle.tables.proofs.Hidden.{shown-agrees, all-legal-same, lowest-illegal-same}
 use Rattle.tables.proofs.Listing.{table-finite, law?}
 use Rattle.trellis.specs.declared.walk.Totals.{Totals}
 use Rattle.tables.proofs.Tests.{never}
@@ -33,7 +33,7 @@ use Rattle.planner.specs.declared.answer.MinmaxAnswer.the-variants as mi
 use Rattle.planner.specs.declared.answer.AveragePlan.{AveragePlan}
 use Rattle.planner.specs.declared.answer.AverageAnswer.{AverageAnswer}
 use Rattle.planner.specs.declared.answer.AverageAnswer.the-variants as average-answer
-use Rattle.planner.specs.Promise.{Promise, unsound, no-sequence, none-within, planned, handed, wiped, totals, IsCeilingPlan, IsMultiplierPlan, IsMinmaxPlan, IsAveragePlan, plan-reply, minmax-reply, average-reply, CeilingPromise, MultiplierPromise, MinmaxPromise, AveragePromise}
+use Rattle.planner.specs.Promise.{Promise, unsound, no-sequence, none-within, planned, handed, totals, IsCeilingPlan, IsMultiplierPlan, IsMinmaxPlan, IsAveragePlan, plan-reply, minmax-reply, average-reply, CeilingPromise, MultiplierPromise, MinmaxPromise, AveragePromise}
 
 -- the checks give one refusal, and none where they pass
 module _ {fourth : Bool} {a : Asked} where

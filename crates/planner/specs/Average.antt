@@ -1,7 +1,7 @@
 -- The parts of the average call that speak of its structs. No promise cites it. Assumes nothing.
 use mathlib.Core.Path.{_≡_}
 use mathlib.Core.Logic.{_⊎_}
-use Prim.Native.Nat.{ℕ, _+_, _*_, _/_, _≤_, _<_}
+use Prim.Native.Nat.{ℕ, _/_, _≤_, _<_}
 use Rattle.criteria.specs.Choice.{Floor}
 use Rattle.criteria.specs.Fraction.{gcd}
 use Rattle.trellis.specs.declared.walk.Totals.{Totals}

@@ -1,7 +1,7 @@
 -- How a call with a budget starts. No promise cites it. Assumes nothing.
 use mathlib.Core.Path.{_≡_}
 use mathlib.Core.List.{List, _++_}
-use Prim.Native.Nat.{ℕ, _*_, _≤_}
+use Prim.Native.Nat.{ℕ, _*_}
 use lib.ListN.{drop, replicate}
 use Rattle.criteria.specs.Choice.{Problem, InBudget, NoneAllowed, NoneWithin}
 use Rattle.tables.specs.declared.refusal.Refusal.the-variants as refusal

@@ -22,8 +22,6 @@ ghost use mathlib.Core.Bool.{false};
 ghost use Prim.Native.Nat.{_+_, _-_, _*_, _/_, _≤_, _<_, _^_};
 ghost use lib.Dec.{eqb};
 ghost use lib.ListN.{length};
-ghost use Rattle.criteria.specs.Choice.{Floor};
-ghost use Rattle.criteria.specs.Fraction.{gcd};
 ghost use Rattle.tables.specs.Limits.{«most-term», «most-total»};
 ghost use Rattle.tables.specs.Planning.{Sound};
 ghost use Rattle.tables.specs.Tables.{table, planning};

@@ -13,7 +13,7 @@ ghost use lib.ListN.{length};
 ghost use Rattle.tables.specs.Limits.{«most-term»};
 ghost use Rattle.tables.specs.Tables.{table, planning};
 ghost use Rattle.trellis.specs.Pass.{Fit};
-ghost use Rattle.weights.specs.OneKey.{Weighed, «rate-first»};
+ghost use Rattle.weights.specs.OneKey.{Weighed};
 ghost use Rattle.planner.specs.Search.{ThriftyPass, MultiplierPass, «no-ceiling»};
 ghost use Rattle.planner.specs.Started.{StartedAs};
 

@@ -11,7 +11,7 @@ use Rattle.tables.specs.Refusals.{Reply}
 use Rattle.planfile.specs.Reading.{entries, fields-of, read-refusal, settings-after}
 use Rattle.planfile.specs.File.{entry-at}
 use Rattle.planfile.proofs.Accepted.{passed}
-use Rattle.planner.specs.Promise.{Promise, unsound, no-sequence, none-within, planned, handed}
+use Rattle.planner.specs.Promise.{Promise, unsound, no-sequence, none-within, planned}
 use Rattle.planner.specs.Checked.{asking}
 use Rattle.planner.proofs.CheckLaws.{sound-plan}
 

@@ -1,7 +1,7 @@
 -- The C surface. A call gives one 64-bit number back: 0, or a refusal with its number in the low 32 bits and what it carries in the high 32.
 -- What it answers goes to a lent buffer, each value in eight bytes, low byte first. Assumes nothing.
 use mathlib.Core.Path.{_≡_}
-use mathlib.Core.Bool.{Bool, cond, _&&_}
+use mathlib.Core.Bool.{cond, _&&_}
 use mathlib.Core.List.{List, [], _∷_, _++_}
 use Prim.Native.Nat.{ℕ, _+_, _*_, _^_}
 use lib.Dec.{eqb, ltb}
@@ -9,9 +9,6 @@ use lib.ListN.{length, getD, drop}
 use Rattle.tables.specs.declared.refusal.Refusal.the-variants as refusal
 use Rattle.tables.specs.Refusals.{Reply, refused}
 use Rattle.tables.specs.Room.{room-of}
-use Rattle.planner.specs.declared.answer.PlanAnswer.{PlanAnswer}
-use Rattle.planner.specs.declared.answer.MinmaxAnswer.{MinmaxAnswer}
-use Rattle.planner.specs.declared.answer.AverageAnswer.{AverageAnswer}
 use Rattle.planfile.specs.declared.fields.Fields.{Fields}
 use Rattle.planfile.specs.Bytes.{le}
 

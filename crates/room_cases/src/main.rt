@@ -4,7 +4,6 @@ use libc::STDOUT_FILENO;
 use tables::refusal::carried;
 use tables::refusal::number;
 use tables::room::RoomAnswer;
-ghost use Prim.Native.Nat.{_<_};
 
 const CHANNELS: [u64; 8] = [
     0,

@@ -2,15 +2,15 @@
 -- allowed sequences, totals, plans, refusals and lowest illegal cell. (What two problems share that agree so is said in criteria's
 -- proofs/Agree.) Assumes nothing.
 use mathlib.Core.Path.{_≡_, refl, sym}
-use mathlib.Core.Logic.{_≢_, _⊎_, inl, inr}
+use mathlib.Core.Logic.{inl, inr}
 use mathlib.Core.List.{List}
-use Prim.Native.Nat.{ℕ, _≤_, _<_}
+use Prim.Native.Nat.{ℕ}
 use native.Mathlib.Decide.{ℕ-discrete}
-use lib.ListN.{length, getD}
+use lib.ListN.{getD}
 use Rattle.criteria.proofs.Agree.{Agree}
-use Rattle.tables.specs.Limits.{most-cell, forbidden}
+use Rattle.tables.specs.Limits.{forbidden}
 use Rattle.tables.specs.Tables.{Table, cell, series, planning}
-use Rattle.tables.specs.Legal.{LegalRate, LegalBeside, LegalCell, AllLegal, LowestIllegal, SameShown}
+use Rattle.tables.specs.Legal.{LegalBeside, LegalCell, AllLegal, LowestIllegal, SameShown}
 use Rattle.tables.proofs.SeriesLaws.{kept-map, total-same, largest-same}
 
 -- the table with other distortions

@@ -1,12 +1,10 @@
 -- Legal cells: what the two walks find is the lowest illegal cell; there is at most one; and there is one or all are legal. Assumes nothing.
-use mathlib.Core.Path.{_≡_, refl}
-use mathlib.Core.Logic.{_⊎_, inl, inr, ⊎-elim}
-use mathlib.Core.List.{List, []}
-use Prim.Native.Nat.{ℕ, zero, suc, _+_, _≤_, _<_}
-use native.Mathlib.Decide.{decLt, decLe, ℕ-discrete}
+use mathlib.Core.Path.{_≡_}
+use mathlib.Core.List.{List}
+use Prim.Native.Nat.{ℕ, _≤_, _<_}
+use native.Mathlib.Decide.{decLt}
 use native.Mathlib.Omega.{arith}
 use lib.ListN.{length, getD}
-use Rattle.tables.specs.Limits.{most-cell, forbidden}
 use Rattle.tables.specs.Legal.{LegalRate, LegalBeside, LegalCell, AllLegal, LowestIllegal}
 
 module _ (rates distortions : List ℕ) where

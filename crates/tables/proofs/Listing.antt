@@ -2,7 +2,7 @@
 use mathlib.Core.Path.{_≡_, refl, ap}
 use mathlib.Core.Logic.{_⊎_, inl, inr}
 use mathlib.Core.List.{List, [], _∷_, _++_, map, List·Memᴰ, List·Memᴰ·head, List·Memᴰ·tail, Memᴰ·append-left, Memᴰ·append-right}
-use Prim.Native.Nat.{ℕ, zero, suc, _+_, _≤_, _<_}
+use Prim.Native.Nat.{ℕ, zero, suc, _+_, _<_}
 use native.Mathlib.Nat.{eq-or-lt-of-le, le-of-suc-le-suc}
 use native.Mathlib.Decide.{decLt, decLe, ℕ-discrete}
 use native.Mathlib.Omega.{arith}
@@ -11,7 +11,7 @@ use Rattle.criteria.proofs.Decide.{dec-×, dec-×₃, not?}
 use Rattle.criteria.proofs.Finite.{Finite}
 use Rattle.tables.specs.Limits.{forbidden}
 use Rattle.tables.specs.Series.{Series, Kept, problem}
-use Rattle.tables.specs.Tables.{Law, law-of, within-two, Follows, Table, rate-at, series, planning, table}
+use Rattle.tables.specs.Tables.{Law, law-of, Follows, Table, rate-at, series, planning, table}
 
 -- each number below b before each list
 abbrev pub each : ℕ → List (List ℕ) → List (List ℕ)

@@ -4,7 +4,6 @@ use mathlib.Core.Bool.{true, false}
 use mathlib.Core.List.{List, [], _∷_}
 use Prim.Native.Nat.{ℕ, _*_}
 use lib.ListN.{getD}
-use Rattle.tables.specs.declared.refusal.Refusal.{Refusal}
 use Rattle.tables.specs.declared.refusal.Refusal.the-variants.{Scans, Settings, Channels}
 use Rattle.tables.specs.declared.room.RoomAnswer.{RoomAnswer}
 use Rattle.tables.specs.declared.room.RoomAnswer.the-variants.{Given, Refused}

@@ -3,18 +3,18 @@
 use mathlib.Core.Path.{_≡_}
 use mathlib.Core.Logic.{_≢_, _⊎_, inl, inr}
 use mathlib.Core.List.{List, [], _∷_}
-use Prim.Native.Nat.{ℕ, suc, _+_, _*_, _≤_, _<_, _^_, max}
-use native.Mathlib.Nat.{mul-le-mul-left, mul-le-mul-right}
+use Prim.Native.Nat.{ℕ, suc, _*_, _≤_, _<_, _^_}
+use native.Mathlib.Nat.{mul-le-mul-left}
 use native.Mathlib.Decide.{decLt}
 use native.Mathlib.Omega.{arith}
-use lib.ListN.{length, getD, List·getD-eq-default}
+use lib.ListN.{length, List·getD-eq-default}
 use Rattle.criteria.specs.Choice.{Average, cost}
 use Rattle.criteria.proofs.Demand.{average-certificate}
 use Rattle.criteria.proofs.Small.{average-small}
 use Rattle.tables.specs.Limits.{most-scans, most-cell, most-total, most-term, forbidden}
 use Rattle.tables.specs.Series.{Series, Kept, total, largest, problem}
 use Rattle.tables.specs.Tables.{Table, cell, series, planning}
-use Rattle.tables.specs.Legal.{LegalRate, LegalBeside, LegalCell, AllLegal, LegalTable}
+use Rattle.tables.specs.Legal.{LegalCell, AllLegal, LegalTable}
 use Rattle.tables.proofs.Listing.{table-finite}
 
 -- a series of a legal table: a step that may be taken has a rate and a distortion of at most 1,048,575

@@ -1,7 +1,7 @@
 -- Document 01, "Bench tables": T, U, and what is claimed of them, P1 to P14. Assumes nothing.
 use mathlib.Core.Path.{_≡_}
 use mathlib.Core.List.{List, [], _∷_}
-use Prim.Native.Nat.{ℕ, _≤_}
+use Prim.Native.Nat.{ℕ}
 use Rattle.criteria.specs.Choice.{Problem, UnderCeiling, InBudget, Ceiling, Multiplier, Average, AverageFloor, Minmax, NoneWithin}
 use Rattle.criteria.specs.Passes.{Passes}
 use Rattle.tables.specs.Tables.{Table, table, planning}

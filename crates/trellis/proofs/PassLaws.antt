@@ -1,6 +1,6 @@
 -- A pass over the tables: what each scan's arrays say of the series, and what the last row says of all sequences. Assumes nothing.
 use mathlib.Core.Path.{_≡_, refl, sym, ap, subst, _∙_}
-use mathlib.Core.Bool.{Bool, true, false}
+use mathlib.Core.Bool.{true, false}
 use mathlib.Core.List.{List, [], _∷_}
 use Prim.Native.Nat.{ℕ, zero, suc, _+_, _-_, _*_, _≤_, _<_}
 use native.Mathlib.Nat.{mul-le-mul, mul-le-mul-right}
@@ -10,10 +10,8 @@ use lib.ListN.{length, getD, set, replicate, getD-replicate}
 use lib.Seq.{getD-set-same, getD-set-other}
 use borrow.Author.Tests.{ltb-true, ltb-false}
 use Rattle.criteria.specs.Choice.{NoneAllowed}
-use Rattle.tables.specs.Limits.{most-scans, most-cell, forbidden}
-use Rattle.tables.specs.Series.{Series, Kept, total, problem}
-use Rattle.tables.specs.Tables.{Table, cell, cells, law-of, Follows, rate-at, distortion-at, series, table}
-use Rattle.tables.specs.Planning.{law-out}
+use Rattle.tables.specs.Series.{Series, total}
+use Rattle.tables.specs.Tables.{Table, cells, law-of, Follows, rate-at, distortion-at, series, table}
 use Rattle.tables.proofs.CellLaws.{later-cell}
 use Rattle.tables.proofs.Totals.{Small, table-small, total-small, legal-anywhere}
 use Rattle.weights.specs.OneKey.{Least}
@@ -26,7 +24,7 @@ use Rattle.trellis.proofs.PriceLaws.{cell-fits, open-price, price-open}
 use Rattle.trellis.proofs.BandLaws.{band-in, band-out}
 use Rattle.trellis.proofs.SquareLaws.{part}
 use Rattle.trellis.proofs.WalkLaws.{fit-legal}
-use Rattle.trellis.proofs.Onward.{Onward, LeastOn}
+use Rattle.trellis.proofs.Onward.{LeastOn}
 use Rattle.trellis.proofs.Rows.{Row, Chosen, Below, row-end, row-step, row-frame}
 
 -- a square of zeros

@@ -6,7 +6,7 @@ use Prim.Native.Nat.{ℕ, zero, suc, _+_, _≤_, _<_}
 use native.Mathlib.Decide.{decLt}
 use native.Mathlib.Omega.{arith}
 use lib.ListN.{length}
-use Rattle.criteria.specs.Order.{Then, lower, tie}
+use Rattle.criteria.specs.Order.{lower, tie}
 use Rattle.criteria.proofs.Order.{then-le}
 use Rattle.tables.specs.Series.{Series, Kept, total}
 use Rattle.trellis.specs.Step.{no-way}

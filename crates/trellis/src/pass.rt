@@ -9,7 +9,6 @@ ghost use mathlib.Core.Path.{_≡_};
 ghost use mathlib.Core.List.{[]};
 ghost use Prim.Native.Nat.{ℕ, _+_, _*_, _≤_, _<_};
 ghost use lib.ListN.{getD, length};
-ghost use Rattle.tables.specs.Planning.{«law-out»};
 ghost use Rattle.trellis.specs.Step.{Ready};
 ghost use Rattle.trellis.specs.Stepped.{Stepped};
 ghost use Rattle.trellis.specs.Pass.{Fit, Light, Passed, asked};

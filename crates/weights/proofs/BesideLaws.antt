@@ -2,10 +2,10 @@
 use mathlib.Core.Path.{_≡_, refl, ap}
 use mathlib.Core.Logic.{inl, inr}
 use Prim.Native.Nat.{ℕ, zero, suc, _+_, _-_, _*_, _/_, _%_, _≤_, _<_}
-use native.Mathlib.Nat.{mul-le-mul-left, mul-le-mul-right, le-of-mul-le-mul-left, lt-of-mul-lt-mul-left, mod-add-div', mod-lt, eq-one-of-dvd-one, dvd-add-iff-right, dvd-mul-left-of-dvd, dvd-mul-right-of-dvd, dvd-mul-right, dvd-antisymm}
+use native.Mathlib.Nat.{mul-le-mul-left, mul-le-mul-right, le-of-mul-le-mul-left, lt-of-mul-lt-mul-left, mod-add-div', mod-lt}
 use native.Mathlib.Omega.{arith}
 use Rattle.tables.specs.Limits.{most-total, most-term}
-use Rattle.weights.specs.OneKey.{Beside, Raised, Weighed, wide}
+use Rattle.weights.specs.OneKey.{Beside, Raised, Weighed}
 use Rattle.weights.proofs.OneKeyLaws.{near}
 
 -- a product that is not zero has no factor zero

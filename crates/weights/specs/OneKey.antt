@@ -4,7 +4,7 @@ use mathlib.Core.Logic.{_↔_}
 use mathlib.Core.List.{List}
 use Prim.Native.Nat.{ℕ, _+_, _*_, _≤_, _<_}
 use Rattle.criteria.specs.Order.{Then, First}
-use Rattle.tables.specs.Limits.{most-total, most-term}
+use Rattle.tables.specs.Limits.{most-total}
 
 -- for D and R up to L, the order of k is that of k₁ and then k₂
 pub record Single (L : ℕ) (k k₁ k₂ : ℕ → ℕ → ℕ) : Type 0 where

@@ -16,9 +16,6 @@ ghost use lib.Dec.{leb};
 ghost use lib.ListN.{length, take};
 ghost use Rattle.workbench.specs.Done.{settles, Decided, Answers};
 
-// The numbers of the largest text that is planned: the first four, and 4,096 cells of each table.
-pub const MOST_NUMBERS: usize = 8196;
-
 // Nothing that may follow changes what is asked: a word is no number or one too many, or N, Q or law is out of range, or the table is too
 // large. Then no more is read.
 pub fn enough(s: State, numbers: &[u32]) -> bool

@@ -1,5 +1,5 @@
 -- `planfile::blocks::block_wrong` meets its contract: the number, then the sum. Assumes nothing.
-use mathlib.Core.Path.{_≡_, refl, sym, _∙_}
+use mathlib.Core.Path.{refl, sym, _∙_}
 use borrow.Author.Tests.{eq-eqb, ne-eqb}
 use Rattle.planfile.specs.Reading.{block-broken}
 use borrow.Author.Needs.{needs}

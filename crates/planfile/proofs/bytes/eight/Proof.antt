@@ -1,6 +1,6 @@
 -- `planfile::bytes::eight` meets its contract: the lower half first. Assumes nothing.
 use native.Mathlib.Omega.{arith}
-use mathlib.Core.Path.{_≡_, refl, sym, _∙_}
+use mathlib.Core.Path.{refl}
 use denote.Ref.{now}
 use Rattle.planfile.proofs.NumberLaws.{number-split}
 use borrow.Author.Needs.{needs}

@@ -1,10 +1,10 @@
 -- `planfile::bytes::put_zeros` meets its contract: zero after zero. Assumes nothing.
 use native.Mathlib.Omega.{arith}
 use mathlib.Core.Path.{_≡_, refl, sym, ap, _∙_}
-use Prim.Native.Nat.{ℕ, _≤_, _+_, _-_, suc}
+use Prim.Native.Nat.{ℕ, _≤_, _+_, _-_}
 use native.Mathlib.Numerals.{add-one}
 use lib.ListN.{length, set, replicate, length-set, length-replicate}
-use lib.Seq.{sets, length-sets}
+use lib.Seq.{sets}
 use denote.Ref.{now}
 use Rattle.planfile.proofs.PartLaws.{sets-snoc, zeros-snoc}
 use Rattle.planfile.proofs.bytes.put_zeros.Statement.{statement}

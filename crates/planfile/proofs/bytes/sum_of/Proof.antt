@@ -2,7 +2,7 @@
 use native.Mathlib.Omega.{arith}
 use borrow.Author.Needs.{needs}
 use mathlib.Core.Path.{_≡_, refl, sym, ap, _∙_}
-use Prim.Native.Nat.{_≤_, _+_, _*_, _-_, suc}
+use Prim.Native.Nat.{_≤_, _+_, _*_, _-_}
 use lib.ListN.{getD}
 use native.Mathlib.Numerals.{add-one}
 use denote.Ref.{now}

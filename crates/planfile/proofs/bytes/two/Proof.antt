@@ -1,6 +1,6 @@
 -- `planfile::bytes::two` meets its contract: the lower byte first. Assumes nothing.
 use native.Mathlib.Omega.{arith}
-use mathlib.Core.Path.{_≡_, refl, sym, _∙_}
+use mathlib.Core.Path.{refl}
 use denote.Ref.{now}
 use Prim.Native.Nat.{_+_}
 use Rattle.planfile.proofs.NumberLaws.{number-one, number-split}

@@ -1,12 +1,12 @@
 -- `planfile::entries::check_settings` meets its contract: entry after entry. Assumes nothing.
 use native.Mathlib.Omega.{arith}
 use borrow.Author.Needs.{needs}
-use mathlib.Core.Path.{_≡_, refl, sym, ap, _∙_}
+use mathlib.Core.Path.{_≡_, sym, ap, _∙_}
 use mathlib.Core.Bool.{false}
 use mathlib.Core.Option.{some}
 use native.Mathlib.Nat.{zero-add}
 use Prim.Native.Nat.{ℕ, _+_, _≤_, _<_, _-_}
-use lib.ListN.{length, getD}
+use lib.ListN.{getD}
 use denote.Ref.{now}
 use borrow.Author.Count.{below-more}
 use Rattle.tables.specs.declared.refusal.Refusal.the-variants as refusal

@@ -1,8 +1,7 @@
 -- `planfile::entries::entry_wrong` meets its contract. Assumes nothing.
 use native.Mathlib.Omega.{arith}
-use mathlib.Core.Path.{_≡_, refl, sym, ap, _∙_}
-use mathlib.Core.Bool.{not}
-use borrow.Author.Tests.{lt-ltb, le-ltb, eq-eqb, ne-eqb}
+use mathlib.Core.Path.{refl}
+use borrow.Author.Tests.{lt-ltb, le-ltb}
 use Rattle.planfile.proofs.LawLaws.{law-tested}
 use borrow.Author.Needs.{needs}
 use Rattle.planfile.proofs.entries.entry_wrong.Statement.{statement}

@@ -1,5 +1,5 @@
 -- `planfile::header::header` meets its contract. Assumes nothing.
-use mathlib.Core.Path.{_≡_, refl, sym, ap, _∙_}
+use mathlib.Core.Path.{ap, _∙_}
 use denote.Ref.{now}
 use Rattle.tables.specs.Planning.{first-refusal}
 use Rattle.planfile.specs.declared.fields.Fields.{Fields}

@@ -1,6 +1,6 @@
 -- `planfile::header::not_zero` meets its contract: byte after byte. Assumes nothing.
 use native.Mathlib.Omega.{arith}
-use mathlib.Core.Path.{_≡_, refl, sym, ap, _∙_}
+use mathlib.Core.Path.{_≡_, sym, _∙_}
 use Prim.Native.Nat.{ℕ, _+_, _≤_, _<_, _-_}
 use lib.ListN.{length, getD, replicate, length-replicate, getD-replicate}
 use denote.Ref.{now}

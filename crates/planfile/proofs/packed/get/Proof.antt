@@ -1,6 +1,6 @@
 -- `planfile::packed::get` meets its contract: a shift and a mask read half a byte. Assumes nothing.
 use native.Mathlib.Omega.{arith}
-use mathlib.Core.Path.{_≡_, refl, sym, ap, subst, _∙_}
+use mathlib.Core.Path.{sym, ap, subst, _∙_}
 use Prim.Native.Nat.{ℕ, _<_, _%_}
 use lib.Bits.{mask-lt}
 use lib.ListN.{getD}

@@ -1,6 +1,6 @@
 -- `planfile::packed::put` meets its contract: a shift and a mask replace half a byte. Assumes nothing.
 use native.Mathlib.Omega.{arith}
-use mathlib.Core.Path.{_≡_, refl, sym, ap, _∙_}
+use mathlib.Core.Path.{ap, _∙_}
 use Prim.Native.Nat.{_<_, _%_}
 use lib.ListN.{getD, set}
 use Rattle.planfile.specs.Packed.{with-half}

@@ -1,8 +1,7 @@
 -- `planfile::read::hand_over` meets its contract: entry after entry. Assumes nothing.
 use native.Mathlib.Omega.{arith}
 use mathlib.Core.Path.{_≡_, refl, sym, ap, _∙_}
-use mathlib.Core.List.{List, [], _∷_, _++_}
-use Prim.Native.Nat.{ℕ, _+_, _≤_, _-_}
+use Prim.Native.Nat.{_≤_, _-_}
 use native.Mathlib.Nat.{zero-add}
 use lib.ListN.{length, set, length-set}
 use lib.Seq.{sets}

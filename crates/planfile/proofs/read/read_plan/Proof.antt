@@ -1,8 +1,6 @@
 -- `planfile::read::read_plan` meets its contract: the stages in order, each with its way out. Assumes nothing.
 use native.Mathlib.Omega.{arith}
-use mathlib.Core.Path.{_≡_, refl, sym, ap, _∙_}
-use mathlib.Core.Option.{none}
-use Prim.Native.Nat.{_≤_}
+use mathlib.Core.Path.{_≡_, ap, _∙_}
 use lib.Dec.{ltb}
 use lib.ListN.{length}
 use lib.Seq.{sets}
@@ -10,11 +8,10 @@ use denote.Ref.{now}
 use borrow.Author.Tests.{ltb-false}
 use Rattle.tables.specs.declared.refusal.Refusal.the-variants as refusal
 use Rattle.planfile.specs.declared.fields.Fields.{Fields}
-use Rattle.planfile.specs.declared.stage.Stage.the-variants.{Passed}
 use Rattle.planfile.specs.File.{entry-at}
-use Rattle.planfile.specs.Rules.{when, found}
+use Rattle.planfile.specs.Rules.{when}
 use Rattle.planfile.specs.Stages.{ended, why-of}
-use Rattle.planfile.specs.Reading.{fields-of, broken-field, bad-entry, read-refusal, entries}
+use Rattle.planfile.specs.Reading.{fields-of, read-refusal, entries}
 use Rattle.planfile.proofs.CheckLaws.{none-when}
 use Rattle.planfile.proofs.ReadLaws.{at-stop, at-pass, last-stop, last-pass, from-entries, from-room, from-header, from-blocks, all-stages, refused-read, accepted-read, sized, entries-inside, told-entries}
 use borrow.Author.Needs.{needs}

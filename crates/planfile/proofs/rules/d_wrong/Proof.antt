@@ -1,5 +1,5 @@
 -- `planfile::rules::d_wrong` meets its contract. Assumes nothing.
-use borrow.Author.Tests.{eq-eqb, ne-eqb}
+use borrow.Author.Tests.{ne-eqb}
 use mathlib.Core.Path.{refl}
 use Rattle.planfile.specs.Rules.{d-broken}
 use borrow.Author.Needs.{needs}

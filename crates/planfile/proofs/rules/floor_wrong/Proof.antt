@@ -1,5 +1,5 @@
 -- `planfile::rules::floor_wrong` meets its contract. Assumes nothing.
-use borrow.Author.Tests.{eq-eqb, ne-eqb}
+use borrow.Author.Tests.{ne-eqb}
 use mathlib.Core.Path.{refl}
 use Rattle.planfile.proofs.rules.floor_wrong.Statement.{statement}
 use Rattle.planfile.proofs.rules.floor_wrong.Tie as tie

@@ -1,6 +1,6 @@
 -- `planfile::rules::n_wrong` meets its contract. Assumes nothing.
-use borrow.Author.Tests.{eq-eqb, ne-eqb, lt-ltb, le-ltb}
-use mathlib.Core.Path.{_≡_, refl, sym, _∙_}
+use borrow.Author.Tests.{ne-eqb, lt-ltb, le-ltb}
+use mathlib.Core.Path.{refl, sym, _∙_}
 use Rattle.planfile.specs.Rules.{n-broken}
 use borrow.Author.Needs.{needs}
 use Rattle.planfile.proofs.rules.n_wrong.Statement.{statement}

@@ -1,5 +1,5 @@
 -- `planfile::rules::past_one` meets its contract. Assumes nothing.
-use borrow.Author.Tests.{eq-eqb, ne-eqb}
+use borrow.Author.Tests.{ne-eqb}
 use mathlib.Core.Path.{refl}
 use Rattle.planfile.proofs.rules.past_one.Statement.{statement}
 use Rattle.planfile.proofs.rules.past_one.Tie as tie

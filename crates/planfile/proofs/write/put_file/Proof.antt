@@ -2,14 +2,13 @@
 use native.Mathlib.Omega.{arith}
 use borrow.Author.Needs.{needs}
 use mathlib.Core.Path.{_≡_, refl, sym, ap, _∙_}
-use mathlib.Core.List.{List, _++_}
-use Prim.Native.Nat.{ℕ, suc, _+_, _*_, _-_, _≤_}
+use Prim.Native.Nat.{suc, _*_, _-_, _≤_}
 use native.Mathlib.Nat.{zero-add}
 use native.Mathlib.Numerals.{add-one}
 use lib.ListN.{length}
 use lib.Seq.{sets, length-sets}
 use denote.Ref.{now}
-use Rattle.planfile.specs.File.{sealed, header, data-block, data-blocks, data-from, entry-of, file-length}
+use Rattle.planfile.specs.File.{sealed, header, data-block, data-blocks, data-from, entry-of}
 use Rattle.planfile.proofs.PartLaws.{sets-append}
 use Rattle.planfile.proofs.BlockLaws.{length-sealed, length-header, length-data}
 use Rattle.planfile.proofs.WriteLaws.{data-more}

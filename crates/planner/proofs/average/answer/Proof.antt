@@ -1,9 +1,6 @@
 -- `planner::average::answer` meets its contract: n and d over their common divisor, and the floor there. Assumes nothing.
 use native.Mathlib.Omega.{arith}
-use mathlib.Core.Path.{_≡_, refl, ap}
-use Prim.Native.Nat.{ℕ, _+_, _*_, _/_, _≤_, _<_, _^_}
-use Rattle.criteria.specs.Fraction.{gcd}
-use Rattle.tables.specs.Limits.{most-term}
+use Prim.Native.Nat.{_/_, _≤_}
 use Rattle.planner.proofs.AverageLaws.{lowest-terms, small-terms, cost-small, bought-small, reduced-by}
 use borrow.Author.Needs.{needs}
 use Rattle.planner.proofs.average.answer.Statement.{statement}

@@ -1,5 +1,4 @@
 -- `planner::multiplier::multiplier_plan` meets its contract: the checks, and the call where they pass. Assumes nothing.
-use mathlib.Core.Path.{refl}
 use Rattle.planner.proofs.PromiseLaws.{checked-sound, checked-refused}
 use borrow.Author.Needs.{needs}
 use Rattle.planner.proofs.multiplier.multiplier_plan.Statement.{statement}

@@ -1,12 +1,11 @@
 -- `tables::common::common` meets its contract, by the remainder rule. The measure is `b`. Assumes nothing.
-use mathlib.Core.Path.{_≡_, refl, sym, _∙_}
-use Prim.Native.Nat.{ℕ, _<_, _≤_, _%_}
+use mathlib.Core.Path.{sym, _∙_}
+use Prim.Native.Nat.{ℕ, _<_}
 use native.Mathlib.Nat.{mod-lt}
 use native.Mathlib.Omega.{arith}
 use borrow.Author.Needs.{needs}
 use borrow.Fn.Kinds.{In}
 use borrow.Fn.PlainCycle.{Measures, is, falls, and}
-use Rattle.criteria.specs.Fraction.{gcd}
 use Rattle.criteria.proofs.Fraction.{gcd-rule}
 use Rattle.tables.proofs.common.common.Reads as common
 use Rattle.tables.proofs.common.common.Kinds as common-kinds

@@ -1,7 +1,7 @@
 -- `tables::legal::legal_distortions` meets its contract. The loop's invariant: every distortion passed is legal. The measure is what is left. Assumes nothing.
 use native.Mathlib.Omega.{arith}
 use Prim.Native.Nat.{ℕ, _≤_, _<_, _-_}
-use lib.ListN.{length, getD}
+use lib.ListN.{getD}
 use borrow.Author.Count.{below-none, below-more}
 use borrow.Author.Tests.{not-false}
 use Rattle.tables.proofs.Tests.{clash}

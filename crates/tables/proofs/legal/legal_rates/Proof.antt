@@ -1,6 +1,5 @@
 -- `tables::legal::legal_rates` meets its contract. The loop's invariant: every rate passed is legal. The measure is what is left. Assumes nothing.
 use native.Mathlib.Omega.{arith}
-use mathlib.Core.Path.{refl}
 use Prim.Native.Nat.{ℕ, _≤_, _<_, _-_}
 use lib.ListN.{length, getD}
 use borrow.Author.Count.{below-none, below-more}

@@ -1,7 +1,7 @@
 -- `trellis::least::least` meets its contract: the best so far, and the next run after it. Assumes nothing.
 use native.Mathlib.Omega.{arith}
 use borrow.Author.Needs.{needs}
-use Prim.Native.Nat.{ℕ, _+_, _-_, _≤_, _<_}
+use Prim.Native.Nat.{_-_, _≤_}
 use lib.ListN.{getD}
 use Rattle.trellis.specs.Step.{BestOf}
 use Rattle.trellis.proofs.RunLaws.{run-single, best-none, best-join}

@@ -4,7 +4,7 @@ use borrow.Author.Needs.{needs}
 use mathlib.Core.Path.{_≡_}
 use mathlib.Core.List.{[]}
 use Prim.Native.Nat.{ℕ, _+_, _-_, _*_, _≤_, _<_}
-use lib.ListN.{length, getD}
+use lib.ListN.{getD}
 use Rattle.trellis.specs.Step.{Sixteen}
 use Rattle.trellis.proofs.SquareLaws.{part, sixteen-more, rows-more}
 use Rattle.trellis.proofs.square.square_into.Statement.{statement}
