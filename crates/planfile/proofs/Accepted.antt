@@ -1,6 +1,6 @@
 -- Theorem b: every accepted file is the one that its plan is written as, and the writer accepts that plan. Assumes nothing.
 use mathlib.Core.Path.{_≡_, refl, sym, ap, _∙_}
-use mathlib.Core.Bool.{Bool, true, false, not, _||_, _&&_}
+use mathlib.Core.Bool.{Bool, true, false, not, _||_, _&&_, cond}
 use mathlib.Core.Option.{none}
 use mathlib.Core.List.{List}
 use Prim.Native.Nat.{ℕ, suc, _+_, _*_, _-_, _/_, _≤_, _<_}
@@ -14,7 +14,7 @@ use Rattle.tables.specs.Planning.{scans-out}
 use Rattle.tables.proofs.Tests.{neither}
 use Rattle.planfile.specs.declared.fields.Fields.{Fields}
 use Rattle.planfile.specs.Bytes.{number-at}
-use Rattle.planfile.specs.File.{either, entry-of, header, data-blocks, file-length, file-of, entry-at}
+use Rattle.planfile.specs.File.{entry-of, header, data-blocks, file-length, file-of, entry-at}
 use Rattle.planfile.specs.Rules.{entry-broken, law-broken, found, when}
 use Rattle.planfile.specs.Reading.{length-out, block-broken, bad-block, fields-of, marks-of, broken-field, bad-entry}
 use Rattle.planfile.specs.Reading.{read-refusal, entries}
@@ -54,8 +54,8 @@ unfolding entry-broken
 shown N Q law e j kept = by (ltb j N) (ltb-true j N) kept
   where
     by : (b : Bool) → (b ≡ true → j < N)
-        → either b (not (ltb (e j) Q) || (ltb 0 j && law-broken law (e (j - 1)) (e j))) (not (eqb (e j) 0)) ≡ false
-        → either b (getD (entries e 0 N) j 0) 0 ≡ e j
+        → cond b (not (ltb (e j) Q) || (ltb 0 j && law-broken law (e (j - 1)) (e j))) (not (eqb (e j) 0)) ≡ false
+        → cond b (getD (entries e 0 N) j 0) 0 ≡ e j
     by true f k = getD-entries e 0 N j (f refl) ∙ ap e (omega arith)
     by false f k = sym (eqb-true (e j) 0 (not-false _ k))
 

@@ -1,6 +1,6 @@
 -- Theorem a: what is written reads back. Assumes nothing.
 use mathlib.Core.Path.{_≡_, refl, sym, ap, _∙_}
-use mathlib.Core.Bool.{Bool, true, false}
+use mathlib.Core.Bool.{Bool, true, false, cond}
 use mathlib.Core.Option.{none}
 use mathlib.Core.List.{List, []}
 use Prim.Native.Nat.{ℕ, zero, suc, _+_, _*_, _-_, _/_, _^_, _≤_, _<_}
@@ -12,7 +12,7 @@ use borrow.Author.Tests.{lt-ltb, le-ltb}
 use Rattle.tables.specs.declared.refusal.Refusal.the-variants as refusal
 use Rattle.planfile.specs.declared.fields.Fields.{Fields}
 use Rattle.planfile.specs.Bytes.{le, number-at}
-use Rattle.planfile.specs.File.{either, header, sealed, entry-of, data-from, data-blocks, file-length, file-of, entry-at}
+use Rattle.planfile.specs.File.{header, sealed, entry-of, data-from, data-blocks, file-length, file-of, entry-at}
 use Rattle.planfile.specs.Rules.{entry-broken, when, or-else}
 use Rattle.planfile.specs.Reading.{length-out, block-broken, bad-block, fields-of, other-length, marks-of, broken-field, bad-entry}
 use Rattle.planfile.specs.Reading.{read-refusal, entries}
@@ -120,11 +120,11 @@ module _ (f : Fields) (settings : List ℕ) (k : Writable f settings) where
   kept-setting : (j : ℕ) → j < f .scans → entry-at file j ≡ getD settings j 0
   kept-setting j h =
       kept-entry j (omega (arith, within (f .scans) (bounds .scans)))
-      ∙ ap (λ (t : Bool). either t (getD settings j 0) 0) (lt-ltb j (f .scans) h)
+      ∙ ap (λ (t : Bool). cond t (getD settings j 0) 0) (lt-ltb j (f .scans) h)
 
   -- an entry from N on is zero
   kept-filler : (j : ℕ) → f .scans ≤ j → j < 1008 * data-blocks (f .scans) → entry-at file j ≡ 0
-  kept-filler j h g = kept-entry j g ∙ ap (λ (t : Bool). either t (getD settings j 0) 0) (le-ltb j (f .scans) h)
+  kept-filler j h g = kept-entry j g ∙ ap (λ (t : Bool). cond t (getD settings j 0) 0) (le-ltb j (f .scans) h)
 
   -- no entry breaks its rule
   entry-kept : (j : ℕ) → j < 1008 * data-blocks (f .scans) → entry-broken (f .scans) (f .settings) (f .law) (entry-at file) j ≡ false

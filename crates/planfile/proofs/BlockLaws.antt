@@ -1,6 +1,6 @@
 -- The blocks of a file: what is written is sound, and a block with the right number and check is the one of what it holds. Assumes nothing.
 use mathlib.Core.Path.{_≡_, refl, sym, ap, _∙_}
-use mathlib.Core.Bool.{Bool, true, false, not}
+use mathlib.Core.Bool.{Bool, true, false, not, cond}
 use mathlib.Core.List.{List, [], _∷_, _++_, append-assoc}
 use Prim.Native.Nat.{ℕ, zero, suc, _+_, _*_, _/_, _%_, _≤_, _<_}
 use native.Mathlib.Omega.{arith}
@@ -11,7 +11,7 @@ use borrow.Author.Tests.{eq-eqb, eqb-true, ltb-false, not-false}
 use Rattle.tables.proofs.Tests.{neither}
 use Rattle.planfile.specs.declared.fields.Fields.{Fields}
 use Rattle.planfile.specs.Bytes.{le, value, part, number-at, sum, half}
-use Rattle.planfile.specs.File.{letters, header, sealed, data-block, data-from, pairs, entry-at, either, data-blocks, file-length}
+use Rattle.planfile.specs.File.{letters, header, sealed, data-block, data-from, pairs, entry-at, data-blocks, file-length}
 use Rattle.planfile.specs.Reading.{length-out, other-length, block-broken, fields-of, differ, marks-of}
 use Rattle.planfile.proofs.PartLaws.{part-length, part-join, part-middle}
 use Rattle.planfile.proofs.NumberLaws.{length-le, value-le, Bytes, number-back, Small, _joins_, small-le, small-zeros}
@@ -24,7 +24,7 @@ use Rattle.planfile.proofs.FieldLaws.{Kept}
 pub few-blocks : (N : ℕ) → data-blocks N ≤ 2
 few-blocks N = of (ltb 1008 N)
   where
-    of : (t : Bool) → either t 2 1 ≤ 2
+    of : (t : Bool) → cond t 2 1 ≤ 2
     of true = omega arith
     of false = omega arith
 
@@ -32,7 +32,7 @@ few-blocks N = of (ltb 1008 N)
 pub within : (N : ℕ) → N ≤ 1024 → N ≤ 1008 * data-blocks N
 within N h = of (ltb 1008 N) (ltb-false 1008 N)
   where
-    of : (t : Bool) → (t ≡ false → N ≤ 1008) → N ≤ 1008 * either t 2 1
+    of : (t : Bool) → (t ≡ false → N ≤ 1008) → N ≤ 1008 * cond t 2 1
     of true f = omega arith
     of false f = omega (arith, f refl)
 
@@ -40,7 +40,7 @@ within N h = of (ltb 1008 N) (ltb-false 1008 N)
 pub length-in : (N : ℕ) → length-out (file-length N) ≡ false
 length-in N = of (ltb 1008 N)
   where
-    of : (t : Bool) → length-out (512 * suc (either t 2 1)) ≡ false
+    of : (t : Bool) → length-out (512 * suc (cond t 2 1)) ≡ false
     of true = refl
     of false = refl
 
@@ -48,7 +48,7 @@ length-in N = of (ltb 1008 N)
 pub same-length : (N : ℕ) → other-length (file-length N) N ≡ false
 same-length N = of (ltb 1008 N)
   where
-    of : (t : Bool) → either t (not (eqb (512 * suc (either t 2 1)) 1536)) (not (eqb (512 * suc (either t 2 1)) 1024)) ≡ false
+    of : (t : Bool) → cond t (not (eqb (512 * suc (cond t 2 1)) 1536)) (not (eqb (512 * suc (cond t 2 1)) 1024)) ≡ false
     of true = refl
     of false = refl
 
@@ -56,7 +56,7 @@ same-length N = of (ltb 1008 N)
 pub right-length : (n N : ℕ) → other-length n N ≡ false → n ≡ file-length N
 right-length n N e = of (ltb 1008 N) e
   where
-    of : (t : Bool) → either t (not (eqb n 1536)) (not (eqb n 1024)) ≡ false → n ≡ 512 * suc (either t 2 1)
+    of : (t : Bool) → cond t (not (eqb n 1536)) (not (eqb n 1024)) ≡ false → n ≡ 512 * suc (cond t 2 1)
     of true e = eqb-true n 1536 (not-false _ e)
     of false e = eqb-true n 1024 (not-false _ e)
 

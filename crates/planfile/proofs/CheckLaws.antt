@@ -1,6 +1,6 @@
 -- Tests one after the other: what is known where none refuses, and where nothing is found; and the converse. Assumes nothing.
 use mathlib.Core.Path.{_≡_, refl, ap, _∙_}
-use mathlib.Core.Bool.{Bool, true, false}
+use mathlib.Core.Bool.{Bool, true, false, cond}
 use mathlib.Core.Option.{Option, none, some}
 use mathlib.Core.List.{List, [], _∷_, _++_}
 use Prim.Native.Nat.{ℕ, zero, suc, _+_, _≤_, _<_}
@@ -9,7 +9,6 @@ use native.Mathlib.Omega.{arith}
 use Rattle.tables.specs.declared.refusal.Refusal.{Refusal}
 use Rattle.tables.specs.Planning.{Check, first-refusal, or-later}
 use Rattle.tables.proofs.Tests.{never, none-fails}
-use Rattle.planfile.specs.File.{either}
 use Rattle.planfile.specs.Rules.{first-from, found, when, or-else}
 
 -- ---- two tests
@@ -69,7 +68,7 @@ none-found r none e = refl
 none-found r (some j) e = never cc
 
 -- the first is not so, and nothing is found later
-not-first : (t : Bool) (j : ℕ) (o : Option ℕ) → either t (some j) o ≡ none → (t ≡ false) × (o ≡ none)
+not-first : (t : Bool) (j : ℕ) (o : Option ℕ) → cond t (some j) o ≡ none → (t ≡ false) × (o ≡ none)
 not-first true j o e = never cc
 not-first false j o e = (refl, e)
 

@@ -1,6 +1,6 @@
 -- What the header rules tell of the fields, and what a writer that refuses nothing has found. Assumes nothing.
 use mathlib.Core.Path.{_≡_, refl}
-use mathlib.Core.Bool.{Bool, true, false, not, _||_, _&&_}
+use mathlib.Core.Bool.{Bool, true, false, not, _||_, _&&_, cond}
 use mathlib.Core.Option.{none}
 use mathlib.Core.List.{List}
 use Prim.Native.Nat.{ℕ, _-_, _≤_, _<_}
@@ -15,7 +15,7 @@ use Rattle.tables.specs.Planning.{first-refusal, zero-or-over, scans-out, setti
 use Rattle.tables.proofs.Tests.{in-range, neither}
 use Rattle.planfile.specs.declared.fields.Fields.{Fields}
 use Rattle.planfile.specs.declared.fields.Marks.{Marks}
-use Rattle.planfile.specs.File.{either, entry-of}
+use Rattle.planfile.specs.File.{entry-of}
 use Rattle.planfile.specs.Rules.{header-rules, kind-out, n-broken, d-broken, rate-broken, peak-broken, floor-broken}
 use Rattle.planfile.specs.Rules.{entry-broken, first-from}
 use Rattle.planfile.specs.Writing.{no-marks, write-short, write-refusal}
@@ -37,7 +37,7 @@ n-small : (kind n d : ℕ) → n-broken kind n d ≡ false → n ≤ most-term
 unfolding n-broken
 n-small kind n d e = by-kind (eqb kind 0) e
   where
-    by-kind : (t : Bool) → either t (ltb most-term n || (not (zero-or-over most-term d) && not (eqb (gcd n d) 1))) (not (eqb n 0)) ≡ false
+    by-kind : (t : Bool) → cond t (ltb most-term n || (not (zero-or-over most-term d) && not (eqb (gcd n d) 1))) (not (eqb n 0)) ≡ false
         → n ≤ most-term
     by-kind true e = ltb-false most-term n (neither _ _ e .0)
     by-kind false e = omega (arith, eqb-true n 0 (not-false _ e))
@@ -47,7 +47,7 @@ d-small : (kind d : ℕ) → d-broken kind d ≡ false → d ≤ most-term
 unfolding d-broken
 d-small kind d e = by-kind (eqb kind 0) e
   where
-    by-kind : (t : Bool) → either t (zero-or-over most-term d) (not (eqb d 0)) ≡ false → d ≤ most-term
+    by-kind : (t : Bool) → cond t (zero-or-over most-term d) (not (eqb d 0)) ≡ false → d ≤ most-term
     by-kind true e = in-range e .1
     by-kind false e = omega (arith, eqb-true d 0 (not-false _ e))
 
@@ -55,7 +55,7 @@ d-small kind d e = by-kind (eqb kind 0) e
 floor-small : (kind floor distortion : ℕ) → floor-broken kind floor distortion ≡ false → floor ≤ distortion
 floor-small kind floor distortion e = by-kind (eqb kind 0) e
   where
-    by-kind : (t : Bool) → either t (ltb distortion floor) (not (eqb floor 0)) ≡ false → floor ≤ distortion
+    by-kind : (t : Bool) → cond t (ltb distortion floor) (not (eqb floor 0)) ≡ false → floor ≤ distortion
     by-kind true e = ltb-false distortion floor e
     by-kind false e = omega (arith, eqb-true floor 0 (not-false _ e))
 

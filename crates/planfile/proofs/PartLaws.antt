@@ -5,6 +5,7 @@ use Prim.Native.Nat.{ℕ, suc, _+_, _≤_, _<_}
 use native.Mathlib.Omega.{arith}
 use lib.ListN.{length, getD, take, drop, set, replicate, length-drop, replicate-append-replicate}
 use lib.Seq.{sets, sets-eq, take-at, drop-at, take-add, drop-drop, length-take-le, getD-take, getD-drop}
+use Rattle.tables.proofs.Stores.{sets-append}
 use Rattle.planfile.specs.Bytes.{part}
 
 -- ---- parts
@@ -29,11 +30,6 @@ pub part-middle : (a b c : List ℕ) (at k : ℕ) → length a ≡ at → length
 part-middle a b c at k e h = ap (λ (l : List ℕ). take k l) (drop-at a (b ++ c) at e) ∙ take-at b c k h
 
 -- ---- stores
-
--- what is stored right after l is stored with it
-pub sets-append : (d l m : List ℕ) (at to : ℕ) → to ≡ at + length l → sets (sets d at l) to m ≡ sets d at (l ++ m)
-sets-append d [] m at to e = let h : to ≡ at = omega (arith, e) in rw h refl
-sets-append d (a ∷ l) m at to e = sets-append (set d at a) l m (suc at) to (omega (arith, e))
 
 -- one more byte
 pub sets-snoc : (d l : List ℕ) (at to x : ℕ) → to ≡ at + length l → set (sets d at l) to x ≡ sets d at (l ++ (x ∷ []))

@@ -1,7 +1,7 @@
 -- A file as it is written: what is stored part after part, a block with its sum, and the entries one by one. Assumes nothing.
 use mathlib.Core.Path.{_≡_, refl, sym, ap, _∙_}
 use mathlib.Core.Logic.{_≢_}
-use mathlib.Core.Bool.{Bool, true, false}
+use mathlib.Core.Bool.{Bool, true, false, cond}
 use mathlib.Core.List.{List, [], _∷_, _++_}
 use Prim.Native.Nat.{ℕ, zero, suc, _+_, _*_, _-_, _/_, _%_, _≤_, _<_}
 use native.Mathlib.Omega.{arith}
@@ -12,9 +12,10 @@ use lib.Seq.{sets, set-set, set-comm, length-sets}
 use borrow.Author.Tests.{lt-ltb, le-ltb, ltb-true, ltb-false, eq-eqb, ne-eqb}
 use Rattle.planfile.specs.declared.fields.Fields.{Fields}
 use Rattle.planfile.specs.Bytes.{le, sum, part}
-use Rattle.planfile.specs.File.{letters, header, sealed, data-block, pairs, entry-of, either}
+use Rattle.planfile.specs.File.{letters, header, sealed, data-block, pairs, entry-of}
 use Rattle.planfile.specs.Packed.{with-half, place-of}
-use Rattle.planfile.proofs.PartLaws.{sets-append, part-sets, part-get}
+use Rattle.tables.proofs.Stores.{sets-append}
+use Rattle.planfile.proofs.PartLaws.{part-sets, part-get}
 use Rattle.planfile.proofs.NumberLaws.{length-le}
 use Rattle.planfile.proofs.HalfLaws.{length-pairs, getD-pairs}
 
@@ -151,7 +152,7 @@ pairs-set f g j (suc n) (suc i) x h e same =
 
 -- the entries before j, and zero from there on
 unfoldable pub so-far : (ℕ → ℕ) → ℕ → ℕ → ℕ
-so-far e j i = either (ltb i j) (e i) 0
+so-far e j i = cond (ltb i j) (e i) 0
 
 -- an entry before j is the entry
 so-far-before : (e : ℕ → ℕ) (j i : ℕ) → i < j → so-far e j i ≡ e i

@@ -1,6 +1,6 @@
 -- The writer's stages, and its answer. Assumes nothing.
 use mathlib.Core.Path.{_≡_, refl, sym, ap, _∙_}
-use mathlib.Core.Bool.{true, false}
+use mathlib.Core.Bool.{true, false, cond}
 use mathlib.Core.Option.{Option, none, some}
 use mathlib.Core.List.{List, [], _∷_, _++_, append-nil, append-assoc}
 use Prim.Native.Nat.{ℕ, zero, suc, _+_, _≤_, _<_}
@@ -16,7 +16,7 @@ use Rattle.tables.specs.Refusals.{refused, answered}
 use Rattle.tables.specs.Planning.{first-refusal, scans-out}
 use Rattle.tables.proofs.Tests.{in-range, neither}
 use Rattle.planfile.specs.declared.fields.Fields.{Fields}
-use Rattle.planfile.specs.File.{sealed, data-block, data-from, file-of, file-length, either}
+use Rattle.planfile.specs.File.{sealed, data-block, data-from, file-of, file-length}
 use Rattle.planfile.specs.Rules.{or-else, when, found, first-from, entry-broken, header-rules}
 use Rattle.planfile.specs.Writing.{no-marks, write-short, write-refusal, write-of, file-after}
 use Rattle.planfile.proofs.CheckLaws.{none-when}
@@ -70,7 +70,7 @@ room-inside N settings room e =
 pub settings-small : (f : Fields) (settings : List ℕ) (room : ℕ) → write-refusal f settings room ≡ none → (j : ℕ) → j < f .scans → getD settings j 0 < 16
 settings-small f settings room e j h =
     let t : ltb j (f .scans) ≡ true = lt-ltb j (f .scans) h in
-    rw (ap (λ b. either b (getD settings j 0) 0) t) at (entry-small f settings (writable f settings room e) j)
+    rw (ap (λ b. cond b (getD settings j 0) 0) t) at (entry-small f settings (writable f settings room e) j)
 
 -- one data block more, from block b on
 data-snoc : (e : ℕ → ℕ) (b n : ℕ) → data-from e b n ++ sealed (data-block e (b + n)) ≡ data-from e b (suc n)

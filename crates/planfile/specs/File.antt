@@ -1,5 +1,5 @@
 -- Document 01, "Plan file": the bytes that a plan is written as. Assumes nothing.
-use mathlib.Core.Bool.{Bool, true, false}
+use mathlib.Core.Bool.{cond}
 use mathlib.Core.List.{List, [], _∷_, _++_}
 use Prim.Native.Nat.{ℕ, zero, suc, _+_, _*_, _/_, _%_}
 use lib.Dec.{ltb}
@@ -30,12 +30,8 @@ header f =
     ++ le 4 (f .d) ++ le 4 (f .rate .0) ++ le 4 (f .distortion .0) ++ le 4 (f .peak) ++ le 4 (f .floor .0) ++ replicate 460 0
 
 -- "entries from N on are zero"
-abbrev pub either : {A : Type 0} → Bool → A → A → A
-either true a b = a
-either false a b = b
-
 abbrev pub entry-of : ℕ → List ℕ → ℕ → ℕ
-entry-of N settings j = either (ltb j N) (getD settings j 0) 0
+entry-of N settings j = cond (ltb j N) (getD settings j 0) 0
 
 -- "two to a byte, the even entry in the low four bits": n bytes, from entry j on
 abbrev pub pairs : (ℕ → ℕ) → ℕ → ℕ → List ℕ
@@ -48,7 +44,7 @@ data-block e b = le 4 (suc b) ++ pairs e (block-entries * b) 504
 
 -- "N over 1,008 goes with length 1,536 and smaller N with 1,024"
 abbrev pub data-blocks : ℕ → ℕ
-data-blocks N = either (ltb block-entries N) 2 1
+data-blocks N = cond (ltb block-entries N) 2 1
 
 abbrev pub file-length : ℕ → ℕ
 file-length N = block-size * suc (data-blocks N)

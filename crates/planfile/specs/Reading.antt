@@ -1,5 +1,5 @@
 -- What the reader answers. Assumes nothing.
-use mathlib.Core.Bool.{Bool, false, not, _||_}
+use mathlib.Core.Bool.{Bool, false, not, _||_, cond}
 use mathlib.Core.Option.{Option, none, some}
 use mathlib.Core.List.{List, [], _∷_, _++_}
 use Prim.Native.Nat.{ℕ, zero, suc, _+_, _*_, _-_, _/_}
@@ -14,7 +14,7 @@ use Rattle.planfile.specs.declared.fields.Fields.{Fields}
 use Rattle.planfile.specs.declared.read.ReadAnswer.{ReadAnswer}
 use Rattle.planfile.specs.declared.read.ReadAnswer.the-variants.{Read, Refused}
 use Rattle.planfile.specs.Bytes.{part, number-at, sum}
-use Rattle.planfile.specs.File.{letters, block-size, block-entries, either, entry-at}
+use Rattle.planfile.specs.File.{letters, block-size, block-entries, entry-at}
 use Rattle.planfile.specs.declared.fields.Marks.{Marks}
 use Rattle.planfile.specs.Rules.{header-rules, entry-broken, first-from, found, when, or-else}
 
@@ -54,7 +54,7 @@ differ (a ∷ s) t = not (eqb a (getD t 0 0)) || differ s (drop 1 t)
 
 -- "N over 1,008 goes with length 1,536 and smaller N with 1,024; else refusal 13 at byte 8"
 abbrev pub other-length : ℕ → ℕ → Bool
-other-length n N = either (ltb block-entries N) (not (eqb n 1536)) (not (eqb n 1024))
+other-length n N = cond (ltb block-entries N) (not (eqb n 1536)) (not (eqb n 1024))
 
 unfoldable pub marks-of : List ℕ → Marks
 marks-of file = record {

@@ -1,5 +1,5 @@
 -- Document 01, "Plan file": the rules, each with the byte that it is charged to. Assumes nothing.
-use mathlib.Core.Bool.{Bool, true, false, not, _||_, _&&_}
+use mathlib.Core.Bool.{Bool, true, false, not, _||_, _&&_, cond}
 use mathlib.Core.Option.{Option, none, some}
 use mathlib.Core.List.{List, [], _∷_}
 use Prim.Native.Nat.{ℕ, zero, suc, _+_, _-_}
@@ -11,7 +11,6 @@ use Rattle.tables.specs.Limits.{most-term, most-total, most-cell}
 use Rattle.tables.specs.Planning.{Check, zero-or-over, scans-out, settings-out, law-out}
 use Rattle.planfile.specs.declared.fields.Fields.{Fields}
 use Rattle.planfile.specs.declared.fields.Marks.{Marks}
-use Rattle.planfile.specs.File.{either}
 
 -- "kind, 0 average, 1 minmax"
 abbrev pub kind-out : ℕ → Bool
@@ -20,10 +19,10 @@ kind-out kind = not (eqb kind 0 || eqb kind 1)
 -- "Kind 0: n/d in lowest terms within the multiplier limits .. . Kind 1: n, d and floor are 0." "Where n and d are each in range but not in
 -- lowest terms, the field is n (byte 24)."
 unfoldable pub n-broken : (kind n d : ℕ) → Bool
-n-broken kind n d = either (eqb kind 0) (ltb most-term n || (not (zero-or-over most-term d) && not (eqb (gcd n d) 1))) (not (eqb n 0))
+n-broken kind n d = cond (eqb kind 0) (ltb most-term n || (not (zero-or-over most-term d) && not (eqb (gcd n d) 1))) (not (eqb n 0))
 
 unfoldable pub d-broken : (kind d : ℕ) → Bool
-d-broken kind d = either (eqb kind 0) (zero-or-over most-term d) (not (eqb d 0))
+d-broken kind d = cond (eqb kind 0) (zero-or-over most-term d) (not (eqb d 0))
 
 -- "rate at most B; rate and distortion at most 1,073,740,800"; "A rate above B is charged to the rate"
 abbrev pub rate-broken : (rate B : ℕ) → Bool
@@ -35,7 +34,7 @@ peak-broken peak distortion = ltb most-cell peak || ltb distortion peak
 
 -- "floor at most the distortion"; "Kind 1: .. floor .. 0"
 abbrev pub floor-broken : (kind floor distortion : ℕ) → Bool
-floor-broken kind floor distortion = either (eqb kind 0) (ltb distortion floor) (not (eqb floor 0))
+floor-broken kind floor distortion = cond (eqb kind 0) (ltb distortion floor) (not (eqb floor 0))
 
 abbrev pub rule : ℕ → Bool → Check
 rule byte broken = record { fails = broken; gives = refusal.Header byte }
@@ -68,7 +67,7 @@ law-broken (suc (suc k)) p q = true
 -- "An entry must be below Q and keep the law with the one before; entries from N on are zero."
 -- Entry j is q, and the one before is p.
 abbrev pub breaks : (N Q law j p q : ℕ) → Bool
-breaks N Q law j p q = either (ltb j N) (not (ltb q Q) || (ltb 0 j && law-broken law p q)) (not (eqb q 0))
+breaks N Q law j p q = cond (ltb j N) (not (ltb q Q) || (ltb 0 j && law-broken law p q)) (not (eqb q 0))
 
 unfoldable pub entry-broken : (N Q law : ℕ) → (ℕ → ℕ) → ℕ → Bool
 entry-broken N Q law e j = breaks N Q law j (e (j - 1)) (e j)
@@ -76,7 +75,7 @@ entry-broken N Q law e j = breaks N Q law j (e (j - 1)) (e j)
 -- the first of n numbers from j on that is so
 abbrev pub first-from : (ℕ → Bool) → ℕ → ℕ → Option ℕ
 first-from bad j zero = none
-first-from bad j (suc n) = either (bad j) (some j) (first-from bad (suc j) n)
+first-from bad j (suc n) = cond (bad j) (some j) (first-from bad (suc j) n)
 
 -- the refusal of what is found
 abbrev pub found : (ℕ → Refusal) → Option ℕ → Option Refusal

@@ -1,17 +1,13 @@
 -- Text after text in a lent buffer. Assumes nothing.
-use mathlib.Core.Path.{_≡_, refl, sym, ap, _∙_}
+use mathlib.Core.Path.{_≡_, sym, ap, _∙_}
 use mathlib.Core.List.{List, [], _∷_, _++_}
-use Prim.Native.Nat.{ℕ, suc, _+_, _≤_, _<_}
+use Prim.Native.Nat.{ℕ, _+_, _≤_, _<_}
 use native.Mathlib.Omega.{arith}
 use native.Mathlib.Numerals.{add-one}
 use lib.ListN.{length, getD, take, set, length-append}
 use lib.Seq.{sets, take-suc, length-take-le}
+use Rattle.tables.proofs.Stores.{sets-append}
 use Rattle.printing.specs.Parts.{Put}
-
--- what is stored right after l is stored with it
-pub sets-append : (d l m : List ℕ) (at to : ℕ) → to ≡ at + length l → sets (sets d at l) to m ≡ sets d at (l ++ m)
-sets-append d [] m at to e = let h : to ≡ at = omega (arith, e) in rw h refl
-sets-append d (a ∷ l) m at to e = sets-append (set d at a) l m (suc at) to (omega (arith, e))
 
 -- one byte more of a text that is copied
 pub copied-more : (d s : List ℕ) (at i : ℕ) → i < length s → set (sets d at (take i s)) (at + i) (getD s i 0) ≡ sets d at (take (i + 1) s)

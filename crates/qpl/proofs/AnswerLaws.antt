@@ -11,7 +11,7 @@ use Rattle.tables.specs.declared.refusal.Refusal.the-variants as refusal
 use Rattle.tables.specs.Refusals.{Reply, refused, answered, numberOf, carriedBy}
 use Rattle.tables.proofs.RefusalLaws.{never-zero}
 use Rattle.planfile.specs.Bytes.{le}
-use Rattle.planfile.proofs.PartLaws.{sets-append}
+use Rattle.tables.proofs.Stores.{sets-append}
 use Rattle.planfile.proofs.NumberLaws.{length-le}
 use Rattle.qpl.specs.Surface.{eights, word-of, answer-after, Told}
 use Rattle.qpl.specs.Parts.{Tellable}

@@ -20,7 +20,7 @@ use Rattle.tables.proofs.CellLaws.{cells-small}
 use Rattle.tables.proofs.RefusalLaws.{never-zero}
 use Rattle.planfile.specs.declared.fields.Fields.{Fields}
 use Rattle.planfile.specs.declared.fields.Marks.{Marks}
-use Rattle.planfile.specs.File.{either, entry-at, file-length}
+use Rattle.planfile.specs.File.{entry-at, file-length}
 use Rattle.planfile.specs.Rules.{header-rules, entry-broken, first-from, found, when, or-else}
 use Rattle.planfile.specs.Reading.{length-out, block-broken, bad-block, bad-entry, broken-field, fields-of, marks-of, read-refusal, read-of, values-of}
 use Rattle.planfile.specs.Writing.{no-marks, write-short, write-refusal, write-of}
@@ -81,7 +81,7 @@ light-found zero r bad j h = tt
 light-found (suc n) r bad j h = of (bad j) (h j (omega arith)) (light-found n r bad (suc j) (λ i g. h i (omega arith)))
   where
     of : (t : Bool) → carriedBy (r j) < 2 ^ 32 → Light (found r (first-from bad (suc j) n)) →
-        Light (found r (either t (some j) (first-from bad (suc j) n)))
+        Light (found r (cond t (some j) (first-from bad (suc j) n)))
     of true a b = a
     of false a b = b
 

@@ -8,3 +8,4 @@ pub mod Bench
 pub mod SeriesLaws
 pub mod Totals
 pub mod Hidden
+pub mod Stores

@@ -1,6 +1,6 @@
 -- A refusal is settled by its number and what it carries, and its number is never 0. Assumes nothing.
 use mathlib.Core.Path.{_≡_, refl, sym, ap, _∙_}
-use mathlib.Core.Bool.{Bool, true, false}
+use mathlib.Core.Bool.{cond}
 use mathlib.Core.List.{List}
 use Prim.Native.Nat.{ℕ}
 use native.Mathlib.Omega.{arith}
@@ -10,26 +10,22 @@ use Rattle.tables.specs.declared.refusal.Refusal.{Refusal}
 use Rattle.tables.specs.declared.refusal.Refusal.the-variants.{Scans, Settings, StepLaw, Multiplier, Lengths, Buffer, Cell, NoSequence, NoneWithin, Channels, FileLength, Block, Header, Entry}
 use Rattle.tables.specs.Refusals.{Reply, refused, answered, numberOf, carriedBy}
 
-abbrev pick : Bool → Refusal → Refusal → Refusal
-pick true r s = r
-pick false r s = s
-
 -- the refusal of a number that carries k
 abbrev pub refusal-of : ℕ → ℕ → Refusal
 refusal-of n k =
-    pick (eqb n 1) Scans
-    (pick (eqb n 2) Settings
-    (pick (eqb n 3) StepLaw
-    (pick (eqb n 4) Multiplier
-    (pick (eqb n 5) Lengths
-    (pick (eqb n 6) Buffer
-    (pick (eqb n 7) (Cell k)
-    (pick (eqb n 8) NoSequence
-    (pick (eqb n 9) NoneWithin
-    (pick (eqb n 10) Channels
-    (pick (eqb n 11) FileLength
-    (pick (eqb n 12) (Block k)
-    (pick (eqb n 13) (Header k) (Entry k)))))))))))))
+    cond (eqb n 1) Scans
+    (cond (eqb n 2) Settings
+    (cond (eqb n 3) StepLaw
+    (cond (eqb n 4) Multiplier
+    (cond (eqb n 5) Lengths
+    (cond (eqb n 6) Buffer
+    (cond (eqb n 7) (Cell k)
+    (cond (eqb n 8) NoSequence
+    (cond (eqb n 9) NoneWithin
+    (cond (eqb n 10) Channels
+    (cond (eqb n 11) FileLength
+    (cond (eqb n 12) (Block k)
+    (cond (eqb n 13) (Header k) (Entry k)))))))))))))
 
 pub refusal-back : (r : Refusal) → refusal-of (numberOf r) (carriedBy r) ≡ r
 refusal-back Scans = refl

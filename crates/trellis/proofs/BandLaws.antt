@@ -1,14 +1,14 @@
 -- The settings that may follow one another lie side by side. Assumes nothing.
 use mathlib.Core.Path.{_≡_, refl}
 use mathlib.Core.Logic.{_⊎_, inl, inr}
-use mathlib.Core.Bool.{Bool, true, false, not, _||_}
+use mathlib.Core.Bool.{Bool, true, false, not, _||_, cond}
 use Prim.Native.Nat.{ℕ, _+_, _-_, _≤_, _<_, min}
 use native.Mathlib.Omega.{arith}
 use lib.Dec.{eqb}
 use borrow.Author.Tests.{eqb-true}
 use Rattle.tables.specs.Tables.{law-of}
 use Rattle.tables.specs.Planning.{law-out}
-use Rattle.trellis.specs.Step.{either, band-from, band-to}
+use Rattle.trellis.specs.Step.{band-from, band-to}
 
 -- a law that passed check 3 is 0 or 1
 pub known-law : (law : ℕ) → law-out law ≡ false → (law ≡ 0) ⊎ (law ≡ 1)
@@ -23,7 +23,7 @@ known-law law e = by-tests (eqb law 0) (eqb law 1) refl refl e
 pub band-order : (law : ℕ) {p k : ℕ} → p < k → (band-from law p ≤ band-to law p k) × (band-to law p k ≤ k)
 band-order law {p} {k} h = by-test (eqb law 1)
   where
-    by-test : (a : Bool) → (either a (p - 2) 0 ≤ either a (min (p + 3) k) k) × (either a (min (p + 3) k) k ≤ k)
+    by-test : (a : Bool) → (cond a (p - 2) 0 ≤ cond a (min (p + 3) k) k) × (cond a (min (p + 3) k) k ≤ k)
     by-test true = (omega arith, omega arith)
     by-test false = (omega arith, omega arith)
 

@@ -1,7 +1,7 @@
 -- What a choice costs: its weights where it is open, and no-way where it is shut. Assumes nothing.
 use mathlib.Core.Path.{_≡_, refl}
 use mathlib.Core.Logic.{_≢_, inl, inr}
-use mathlib.Core.Bool.{Bool, true, false, _||_}
+use mathlib.Core.Bool.{Bool, true, false, _||_, cond}
 use Prim.Native.Nat.{ℕ, _+_, _*_, _≤_, _<_, _^_}
 use native.Mathlib.Nat.{mul-le-mul-right}
 use native.Mathlib.Omega.{arith}
@@ -12,7 +12,7 @@ use Rattle.tables.specs.Legal.{LegalRate, LegalBeside}
 use Rattle.weights.specs.OneKey.{wide}
 use Rattle.trellis.specs.declared.least.Rule.{Rule}
 use Rattle.trellis.specs.Pass.{Light}
-use Rattle.trellis.specs.Step.{no-way, either, shut-by, price-of}
+use Rattle.trellis.specs.Step.{no-way, shut-by, price-of}
 
 -- a product of a weight and a number of 32 bits
 pub weight-fits : {w : ℕ} (x : ℕ) → w < wide → x < 2 ^ 32 → w * x ≤ 9223372030412324865
@@ -24,7 +24,7 @@ cell-fits {w} {x} h g = omega (arith, mul-le-mul-right {m = w} {n = 2147483647} 
 
 module _ (rule : Rule) (rate distortion : ℕ) where
   open-tests : (a b : Bool) → eqb rate forbidden ≡ a → ltb (rule .ceiling) distortion ≡ b → rate ≢ forbidden → distortion ≤ rule .ceiling →
-      either (a || b) no-way (rule .a * distortion + rule .b * rate) ≡ rule .a * distortion + rule .b * rate
+      cond (a || b) no-way (rule .a * distortion + rule .b * rate) ≡ rule .a * distortion + rule .b * rate
   open-tests true b e f n h = absurd (n (eqb-true rate forbidden e))
   open-tests false true e f n h = absurd (omega (arith, ltb-true (rule .ceiling) distortion f))
   open-tests false false e f n h = refl
@@ -34,7 +34,7 @@ module _ (rule : Rule) (rate distortion : ℕ) where
   open-price n h = open-tests (eqb rate forbidden) (ltb (rule .ceiling) distortion) refl refl n h
 
   shut-tests : (a b : Bool) → eqb rate forbidden ≡ a → ltb (rule .ceiling) distortion ≡ b →
-      either (a || b) no-way (rule .a * distortion + rule .b * rate) < no-way → (rate ≢ forbidden) × (distortion ≤ rule .ceiling)
+      cond (a || b) no-way (rule .a * distortion + rule .b * rate) < no-way → (rate ≢ forbidden) × (distortion ≤ rule .ceiling)
   shut-tests true b e f h = absurd (omega arith)
   shut-tests false true e f h = absurd (omega arith)
   shut-tests false false e f h = (eqb-false rate forbidden e, ltb-false (rule .ceiling) distortion f)
@@ -45,7 +45,7 @@ module _ (rule : Rule) (rate distortion : ℕ) where
   price-open h = shut-tests (eqb rate forbidden) (ltb (rule .ceiling) distortion) refl refl h
 
   small-tests : Light rule → LegalRate rate → LegalBeside rate distortion → (a b : Bool) → eqb rate forbidden ≡ a →
-      either (a || b) no-way (rule .a * distortion + rule .b * rate) ≤ no-way
+      cond (a || b) no-way (rule .a * distortion + rule .b * rate) ≤ no-way
   small-tests w l m true b e = omega arith
   small-tests w l m false true e = omega arith
   small-tests w (inr l) m false false e = absurd (eqb-false rate forbidden e l)
@@ -57,7 +57,7 @@ module _ (rule : Rule) (rate distortion : ℕ) where
   price-small w l m = small-tests w l m (eqb rate forbidden) (ltb (rule .ceiling) distortion) refl
 
 -- the price, as the code makes it
-pub priced : (rule : Rule) {rate distortion r v w₁ w₂ w₃ w₄ : ℕ} {b : Bool} → r ≡ either b no-way v → b ≡ shut-by (rule .ceiling) rate distortion →
+pub priced : (rule : Rule) {rate distortion r v w₁ w₂ w₃ w₄ : ℕ} {b : Bool} → r ≡ cond b no-way v → b ≡ shut-by (rule .ceiling) rate distortion →
     v ≡ w₄ * w₂ + w₃ * w₁ → w₁ ≡ rate → w₂ ≡ distortion → w₃ ≡ rule .b → w₄ ≡ rule .a → r ≡ price-of rule rate distortion
 unfolding price-of
 priced rule e f g h₁ h₂ h₃ h₄ = rw (e, f, g, h₁, h₂, h₃, h₄)

@@ -1,12 +1,12 @@
 -- The least of runs of candidates: one candidate, two runs side by side, and a run after the best so far. Assumes nothing.
 use mathlib.Core.Path.{_≡_, refl}
-use mathlib.Core.Bool.{Bool, true, false}
+use mathlib.Core.Bool.{Bool, true, false, cond}
 use Prim.Native.Nat.{ℕ, _+_, _≤_, _<_}
 use native.Mathlib.Decide.{decLt}
 use native.Mathlib.Omega.{arith}
 use lib.Dec.{ltb}
 use borrow.Author.Tests.{ltb-true, ltb-false}
-use Rattle.trellis.specs.Step.{no-way, either, Joins, RunOf, BestOf}
+use Rattle.trellis.specs.Step.{no-way, Joins, RunOf, BestOf}
 
 pub run-single : (x : ℕ → ℕ) (q : ℕ) {k f : ℕ} → (k ≡ x q) × (f ≡ q) → RunOf x q (q + 1) k f
 run-single x q {k} {f} e = rw (e .0, e .1) (record {
@@ -27,7 +27,7 @@ sides {lo} {mid} {hi} A f g q h l = at (decLt q mid)
     at (no m) = g q (omega arith) l
 
 module _ (x : ℕ → ℕ) {lo mid hi k f k′ f′ : ℕ} where
-  run-by : RunOf x lo mid k f → RunOf x mid hi k′ f′ → (b : Bool) → ltb k′ k ≡ b → RunOf x lo hi (either b k′ k) (either b f′ f)
+  run-by : RunOf x lo mid k f → RunOf x mid hi k′ f′ → (b : Bool) → ltb k′ k ≡ b → RunOf x lo hi (cond b k′ k) (cond b f′ f)
   run-by r s true e = let l = ltb-true k′ k e in record {
     from = omega (arith, r .from, r .to, s .from);
     to = s .to;
@@ -46,7 +46,7 @@ module _ (x : ℕ → ℕ) {lo mid hi k f k′ f′ : ℕ} where
   pub run-join : RunOf x lo mid k f → RunOf x mid hi k′ f′ → {k″ f″ : ℕ} → Joins k f k′ f′ k″ f″ → RunOf x lo hi k″ f″
   run-join r s j = rw (j .0, j .1) (run-by r s (ltb k′ k) refl)
 
-  best-by : lo ≤ mid → BestOf x lo mid k f → RunOf x mid hi k′ f′ → (b : Bool) → ltb k′ k ≡ b → BestOf x lo hi (either b k′ k) (either b f′ f)
+  best-by : lo ≤ mid → BestOf x lo mid k f → RunOf x mid hi k′ f′ → (b : Bool) → ltb k′ k ≡ b → BestOf x lo hi (cond b k′ k) (cond b f′ f)
   best-by m r s true e = let l = ltb-true k′ k e in record {
     capped = omega (arith, r .capped);
     inside = omega (arith, s .to);

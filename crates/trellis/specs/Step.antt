@@ -1,6 +1,6 @@
 -- One scan: what a choice costs, and the least of a row of candidates. Assumes nothing.
 use mathlib.Core.Path.{_≡_}
-use mathlib.Core.Bool.{Bool, true, false, _||_}
+use mathlib.Core.Bool.{Bool, _||_, cond}
 use mathlib.Core.List.{List, []}
 use Prim.Native.Nat.{ℕ, _+_, _-_, _*_, _≤_, _<_, min}
 use lib.Dec.{eqb, ltb}
@@ -13,17 +13,13 @@ use Rattle.trellis.specs.declared.least.Rule.{Rule}
 abbrev pub no-way : ℕ
 no-way = 4611686018427387904
 
-abbrev pub either : {A : Type 0} → Bool → A → A → A
-either true a b = a
-either false a b = b
-
 -- a choice that is forbidden, or over the ceiling
 abbrev pub shut-by : (ceiling rate distortion : ℕ) → Bool
 shut-by ceiling rate distortion = eqb rate forbidden || ltb ceiling distortion
 
 -- what a choice costs, by the rule's weights
 unfoldable pub price-of : Rule → (rate distortion : ℕ) → ℕ
-price-of rule rate distortion = either (shut-by (rule .ceiling) rate distortion) no-way (rule .a * distortion + rule .b * rate)
+price-of rule rate distortion = cond (shut-by (rule .ceiling) rate distortion) no-way (rule .a * distortion + rule .b * rate)
 
 -- .. and with it what lies ahead of setting q
 abbrev pub candidate : Rule → (rates distortions keys : List ℕ) → ℕ → ℕ
@@ -40,7 +36,7 @@ Ready k rates distortions keys =
 
 -- the later of two takes the place of the earlier where it is less
 abbrev pub Joins : (key first key′ first′ key″ first″ : ℕ) → Type 0
-Joins key first key′ first′ key″ first″ = (key″ ≡ either (ltb key′ key) key′ key) × (first″ ≡ either (ltb key′ key) first′ first)
+Joins key first key′ first′ key″ first″ = (key″ ≡ cond (ltb key′ key) key′ key) × (first″ ≡ cond (ltb key′ key) first′ first)
 
 -- key is the least of x from lo up to hi, and `first` the first that attains it
 pub record RunOf (x : ℕ → ℕ) (lo hi key first : ℕ) : Type 0 where
@@ -60,8 +56,8 @@ pub record BestOf (x : ℕ → ℕ) (lo hi key first : ℕ) : Type 0 where
 
 -- the settings of k that may follow p under a law: from this one ..
 abbrev pub band-from : ℕ → ℕ → ℕ
-band-from law p = either (eqb law 1) (p - 2) 0
+band-from law p = cond (eqb law 1) (p - 2) 0
 
 -- .. up to and without this one
 abbrev pub band-to : ℕ → ℕ → ℕ → ℕ
-band-to law p k = either (eqb law 1) (min (p + 3) k) k
+band-to law p k = cond (eqb law 1) (min (p + 3) k) k

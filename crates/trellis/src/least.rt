@@ -4,11 +4,12 @@ use weights::cost::Amount;
 use weights::cost::Dist;
 use weights::cost::Rate;
 use weights::cost::cost;
+ghost use mathlib.Core.Bool.{cond};
 ghost use mathlib.Core.Path.{_≡_};
 ghost use Prim.Native.Nat.{ℕ, _+_, _≤_, _<_, _^_};
 ghost use lib.ListN.{getD, length};
 ghost use Rattle.weights.specs.OneKey.{wide as most-weight};
-ghost use Rattle.trellis.specs.Step.{«shut-by», either, «price-of», candidate, Ready, Joins, RunOf, BestOf};
+ghost use Rattle.trellis.specs.Step.{«shut-by», «price-of», candidate, Ready, Joins, RunOf, BestOf};
 
 // No allowed sequence leads to the end: more than any sequence costs, and twice it still fits.
 pub const NO_WAY: u64 = 4611686018427387904;
@@ -33,13 +34,13 @@ fn wide(x: u32) -> u64
 }
 
 fn choose(wins: bool, a: u64, b: u64) -> u64
-    ensures { λ r. ⌜ r ≡ either wins a b ⌝ }
+    ensures { λ r. ⌜ r ≡ cond wins a b ⌝ }
 {
     if wins { a } else { b }
 }
 
 fn choose_first(wins: bool, a: usize, b: usize) -> usize
-    ensures { λ r. ⌜ r ≡ either wins a b ⌝ }
+    ensures { λ r. ⌜ r ≡ cond wins a b ⌝ }
 {
     if wins { a } else { b }
 }

@@ -4,7 +4,7 @@ use lib.Seq.{sets}
 use denote.Ref.{now}
 use Prim.Native.Nat.{_+_, _/_}
 use Rattle.planfile.specs.Bytes.{le}
-use Rattle.planfile.proofs.PartLaws.{sets-append}
+use Rattle.tables.proofs.Stores.{sets-append}
 use Rattle.planfile.proofs.NumberLaws.{le-eight, length-le}
 use borrow.Author.Needs.{needs}
 use Rattle.planfile.proofs.bytes.put_eight.Statement.{statement}

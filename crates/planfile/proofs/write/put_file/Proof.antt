@@ -9,7 +9,7 @@ use lib.ListN.{length}
 use lib.Seq.{sets, length-sets}
 use denote.Ref.{now}
 use Rattle.planfile.specs.File.{sealed, header, data-block, data-blocks, data-from, entry-of}
-use Rattle.planfile.proofs.PartLaws.{sets-append}
+use Rattle.tables.proofs.Stores.{sets-append}
 use Rattle.planfile.proofs.BlockLaws.{length-sealed, length-header, length-data}
 use Rattle.planfile.proofs.WriteLaws.{data-more}
 use Rattle.planfile.proofs.write.put_file.Statement.{statement}
