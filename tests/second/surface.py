@@ -10,8 +10,8 @@ NAMES = {CEILING: "ceiling", MULTIPLIER: "multiplier", MINMAX: "minmax", AVERAGE
 NEEDS = {CEILING: 24, MULTIPLIER: 24, MINMAX: 32, AVERAGE: 48}
 ROOM_NEEDS, READ_NEEDS = 24, 88
 
-# a buffer that is too short for every table
-NO_ROOM = -1
+# Document 01's orders: a buffer that is too short is 6, after these and before all others.
+BEFORE_ROOM = {1, 2, 3, 4, 5, 11, 12, 13}
 
 
 def word(number, carried):
@@ -35,8 +35,8 @@ def room_call(channels, scans, settings, answer):
 def plan_call(make, call, scans, settings, law, limits, rates, distortions, plan, scratch, answer):
     """The number, and the buffers answer, plan and scratch."""
     if len(answer) < NEEDS[call]:
-        number, carried = planner.early_refusal(call, scans, settings, law, limits, rates, distortions, NO_ROOM, len(scratch))
-        return word(number, carried), answer, plan, scratch
+        early = planner.early_refusal(call, scans, settings, law, limits, rates, distortions, len(plan), len(scratch))
+        return word(*early) if early and early[0] in BEFORE_ROOM else word(6, 0), answer, plan, scratch
     number, values, plan, scratch = planner.answer(make, call, scans, settings, law, limits, rates, distortions, plan, scratch)
     if number:
         return word(number, values[0]), answer, plan, scratch
@@ -45,10 +45,13 @@ def plan_call(make, call, scans, settings, law, limits, rates, distortions, plan
 
 def read_call(file, plan, answer):
     """The number, and the buffers answer and plan."""
+    short = len(answer) < READ_NEEDS
     try:
-        f, settings = planfile.reading(file, len(plan) if len(answer) >= READ_NEEDS else NO_ROOM)
+        f, settings = planfile.reading(file, len(plan))
     except planfile.Refusal as refusal:
-        return word(*refusal.args), answer, plan
+        return word(6, 0) if short and refusal.args[0] not in BEFORE_ROOM else word(*refusal.args), answer, plan
+    if short:
+        return word(6, 0), answer, plan
     return 0, with_values([f[name] for name in planfile.NAMES], answer), bytes(settings) + plan[len(settings) :]
 
 

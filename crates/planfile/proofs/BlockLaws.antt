@@ -7,7 +7,7 @@ use native.Mathlib.Omega.{arith}
 use lib.Dec.{eqb, ltb}
 use lib.ListN.{length, take, getD, replicate, length-append, length-replicate, List·getD-append}
 use lib.Seq.{take-at, drop-at, take-append-le, getD-append-add}
-use borrow.Author.Tests.{eq-eqb, eqb-true, ltb-false, not-false}
+use borrow.Author.Tests.{eq-eqb, ne-eqb, eqb-true, ltb-false, not-false}
 use Rattle.tables.proofs.Tests.{neither}
 use Rattle.planfile.specs.declared.fields.Fields.{Fields}
 use Rattle.planfile.specs.Bytes.{le, value, part, number-at, sum, half}
@@ -94,6 +94,17 @@ block-sound front body rest k at long few number =
     third =
         ap (λ (l : List ℕ). part (512 * k) 508 (front ++ l)) (append-assoc body tail rest)
         ∙ part-middle front body (tail ++ rest) (512 * k) 508 at long
+
+-- a block whose first four bytes hold another number is broken
+pub other-number : (file : List ℕ) (k : ℕ) {r : ℕ} → r ≡ number-at (512 * k) 4 file → (r ≡ k → ⊥) → true ≡ block-broken file k
+unfolding block-broken
+other-number file k e h = rw (ne-eqb _ _ (λ g. h (e ∙ g))) refl
+
+-- where they hold its own, its sum decides
+pub own-number : (file : List ℕ) (k : ℕ) {r x s : ℕ} → r ≡ number-at (512 * k) 4 file → r ≡ k → x ≡ number-at (512 * k + 508) 4 file
+    → s ≡ sum (part (512 * k) 508 file) → not (eqb x s) ≡ block-broken file k
+unfolding block-broken
+own-number file k e h g i = rw (sym e, eq-eqb _ _ h, sym g, sym i) refl
 
 -- ---- block 0
 

@@ -70,13 +70,13 @@ pub fn write_plan(f: Fields, settings: &[u8], file: &mut [u8]) -> WriteAnswer
         run_48: false,
     };
     let headed = rules(marks, f);
-    let Stage::Passed = headed else {
-        return WriteAnswer::Refused(why(headed));
-    };
     let roomed = unless(
         too_short(f.scans, settings.len() as u64, file.len() as u64),
         Refusal::Buffer,
     );
+    let Stage::Passed = headed else {
+        return WriteAnswer::Refused(why(headed));
+    };
     let Stage::Passed = roomed else {
         return WriteAnswer::Refused(why(roomed));
     };

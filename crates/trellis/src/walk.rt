@@ -4,7 +4,7 @@ use weights::cost::Dist;
 use weights::cost::Rate;
 ghost use mathlib.Core.Path.{_≡_};
 ghost use mathlib.Core.List.{_++_};
-ghost use Prim.Native.Nat.{ℕ, _+_, _*_, _≤_, _<_, max};
+ghost use Prim.Native.Nat.{ℕ, _+_, _*_, _≤_, _<_, _^_, max};
 ghost use lib.ListN.{getD, length, drop, replicate};
 ghost use Rattle.tables.specs.Tables.{table, planning};
 ghost use Rattle.trellis.specs.Chosen.{chosen};
@@ -18,10 +18,17 @@ pub struct Totals {
     pub peak: u64,
 }
 
-fn wide(x: u32) -> u64
-    ensures { λ r. ⌜ (r ≡ x) × (r < 4294967296) ⌝ }
+// What a cell says.
+fn rate_of(cell: u32) -> Rate
+    ensures { λ r. ⌜ r .0 ≡ cell ⌝ }
 {
-    x as u64
+    Rate(cell as u64)
+}
+
+fn distortion_of(cell: u32) -> Dist
+    ensures { λ r. ⌜ r .0 ≡ cell ⌝ }
+{
+    Dist(cell as u64)
 }
 
 fn narrow(x: u8) -> usize
@@ -37,14 +44,14 @@ fn larger(a: u64, b: u64) -> u64
 }
 
 // A sequence with one more scan.
-fn with_scan(t: Totals, rate: u64, distortion: u64) -> Totals
-    requires { ⌜ (t .rate .0 + rate < 18446744073709551616) × (t .distortion .0 + distortion < 18446744073709551616) ⌝ }
-    ensures { λ r. ⌜ (r .rate .0 ≡ t .rate .0 + rate) × ((r .distortion .0 ≡ t .distortion .0 + distortion) × (r .peak ≡ max (t .peak) distortion)) ⌝ }
+fn with_scan(t: Totals, rate: Rate, distortion: Dist) -> Totals
+    requires { ⌜ (t .rate .0 + rate .0 < 2 ^ 64) × (t .distortion .0 + distortion .0 < 2 ^ 64) ⌝ }
+    ensures { λ r. ⌜ (r .rate .0 ≡ t .rate .0 + rate .0) × ((r .distortion .0 ≡ t .distortion .0 + distortion .0) × (r .peak ≡ max (t .peak) (distortion .0))) ⌝ }
 {
     Totals {
-        rate: Rate(t.rate.0 + rate),
-        distortion: Dist(t.distortion.0 + distortion),
-        peak: larger(t.peak, distortion),
+        rate: Rate(t.rate.0 + rate.0),
+        distortion: Dist(t.distortion.0 + distortion.0),
+        peak: larger(t.peak, distortion.0),
     }
 }
 
@@ -70,7 +77,7 @@ pub fn total_up(
     for i in 0..scans {
         let q = narrow(scratch[i * settings + p]);
         let at = number(settings as u64, i as u64, p as u64, q as u64) as usize;
-        t = with_scan(t, wide(rates[at]), wide(distortions[at]));
+        t = with_scan(t, rate_of(rates[at]), distortion_of(distortions[at]));
         p = q;
     }
     t
@@ -83,9 +90,9 @@ pub fn hand_over(scans: usize, settings: usize, scratch: &[u8], plan: &mut [u8])
     ensures { λ _. ⌜ now (plan .exit) ≡ chosen settings scans (now (scratch .entry)) ++ drop scans (now (plan .entry)) ⌝ }
 {
     let mut p: usize = 0;
-    for i in 0..scans {
-        let q = scratch[i * settings + p];
-        plan[i] = q;
+    for scan in 0..scans {
+        let q = scratch[scan * settings + p];
+        plan[scan] = q;
         p = narrow(q);
     }
 }

@@ -1,7 +1,5 @@
 -- `planfile::blocks::block_wrong` meets its contract: the number, then the sum. Assumes nothing.
-use mathlib.Core.Path.{refl, sym, _∙_}
-use borrow.Author.Tests.{eq-eqb, ne-eqb}
-use Rattle.planfile.specs.Reading.{block-broken}
+use Rattle.planfile.proofs.BlockLaws.{other-number, own-number}
 use borrow.Author.Needs.{needs}
 use Rattle.planfile.proofs.blocks.block_wrong.Statement.{statement}
 use Rattle.planfile.proofs.blocks.block_wrong.Tie as tie
@@ -13,8 +11,9 @@ four-requires : tie.Need-four-requires
 four-requires c κs = search needs
 
 returns : tie.Need-returns
-unfolding block-broken
-returns c = rw (ne-eqb _ _ (λ e. c .if1 .taken (c .before .four .ensures .0 ∙ e))) refl
+returns c =
+    let a = c .before .before .before .args in
+    other-number (a .file .now) (a .k) (c .before .four .ensures .0) (c .if1 .taken)
 
 add-four : tie.Need-add-four
 add-four c = search needs
@@ -26,8 +25,9 @@ sum-of-requires : tie.Need-sum-of-requires
 sum-of-requires c κs = search needs
 
 returns-2 : tie.Need-returns-2
-unfolding block-broken
-returns-2 c = rw (sym (c .before .before .before .four .ensures .0), eq-eqb _ _ (c .before .before .if1 .left), sym (c .before .four2 .ensures .0), sym (c .sum-of .ensures)) refl
+returns-2 c =
+    let a = c .before .before .before .before .before .args in
+    own-number (a .file .now) (a .k) (c .before .before .before .four .ensures .0) (c .before .before .if1 .left) (c .before .four2 .ensures .0) (c .sum-of .ensures)
 
 pub block-wrong-spec : {M : Type 1} → statement M
 block-wrong-spec =

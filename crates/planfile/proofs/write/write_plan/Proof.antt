@@ -15,17 +15,17 @@ use Rattle.planfile.proofs.write.write_plan.Tie as tie
 
 -- each stage that passed leaves the answer to those after it
 rules-passed : (c : tie.After-enum-told) →
-    let a = c .before .before .before .before .before .args in
+    let a = c .before .before .before .before .before .before .before .args in
     write-refusal (a .f) (now (a .settings)) (length (now (a .file))) ≡ from-short (a .f) (now (a .settings)) (length (now (a .file)))
 rules-passed c =
-    let a = c .before .before .before .before .before .args in
+    let a = c .before .before .before .before .before .before .before .args in
     let room = length (now (a .file)) in
     write-stages (a .f) (now (a .settings)) room
-    ∙ at-pass (from-short (a .f) (now (a .settings)) room) (c .before .before .rules .ensures) (c .enum-told .given .1)
+    ∙ at-pass (from-short (a .f) (now (a .settings)) room) (c .before .before .before .before .rules .ensures) (c .enum-told .given .1)
 
 -- the room that was asked for
 room-asked : (c : tie.After-unless) →
-    let a = c .before .before .before .before .before .before .before .args in
+    let a = c .before .before .before .before .before .args in
     ended (c .unless .result) ≡ when (write-short (a .f .scans) (length (now (a .settings))) (length (now (a .file)))) refusal.Buffer
 room-asked c = c .unless .ensures ∙ ap (λ t. when t refusal.Buffer) (c .before .too-short .ensures)
 
@@ -34,8 +34,8 @@ room-passed : (c : tie.After-enum-told3) →
     write-refusal (a .f) (now (a .settings)) (length (now (a .file))) ≡ from-settings (a .f) (now (a .settings))
 room-passed c =
     let a = c .before .before .before .before .before .before .before .before .before .args in
-    rules-passed (c .before .before .before .before)
-    ∙ at-pass (from-settings (a .f) (now (a .settings))) (room-asked (c .before .before)) (c .enum-told3 .given .1)
+    rules-passed (c .before .before)
+    ∙ at-pass (from-settings (a .f) (now (a .settings))) (room-asked (c .before .before .before .before)) (c .enum-told3 .given .1)
 
 all-passed : (c : tie.After-enum-told5) →
     let a = c .before .before .before .before .before .before .before .before .before .before .before .before .args in
@@ -44,6 +44,12 @@ all-passed c = room-passed (c .before .before .before) ∙ last-pass (c .before 
 
 rules-requires : tie.Need-rules-requires
 rules-requires c κs = search needs
+
+too-short-requires : tie.Need-too-short-requires
+too-short-requires c κs = search needs
+
+unless-requires : tie.Need-unless-requires
+unless-requires c κs = search needs
 
 enum-told : tie.Need-enum-told
 enum-told c = search needs
@@ -56,17 +62,11 @@ why-requires c κs = search needs
 
 returns : tie.Need-returns
 returns c =
-    let a = c .before .before .before .before .before .before .args in
+    let a = c .before .before .before .before .before .before .before .before .args in
     let s = now (a .settings) in
     let d = now (a .file) in
-    refused-write (a .f) s d (why-of (c .before .before .before .rules .result)) (c .why .result) (c .why .ensures)
-    (write-stages (a .f) s (length d) ∙ at-stop (from-short (a .f) s (length d)) (c .before .before .before .rules .ensures) (c .before .enum-told2 .given .1))
-
-too-short-requires : tie.Need-too-short-requires
-too-short-requires c κs = search needs
-
-unless-requires : tie.Need-unless-requires
-unless-requires c κs = search needs
+    refused-write (a .f) s d (why-of (c .before .before .before .before .before .rules .result)) (c .why .result) (c .why .ensures)
+    (write-stages (a .f) s (length d) ∙ at-stop (from-short (a .f) s (length d)) (c .before .before .before .before .before .rules .ensures) (c .before .enum-told2 .given .1))
 
 enum-told-3 : tie.Need-enum-told-3
 enum-told-3 c = search needs
@@ -81,14 +81,14 @@ returns-2 : tie.Need-returns-2
 returns-2 c =
     let a = c .before .before .before .before .before .before .before .before .before .before .args in
     let s = now (a .settings) in
-    refused-write (a .f) s (now (a .file)) (why-of (c .before .before .before .unless .result)) (c .why2 .result) (c .why2 .ensures)
-    (rules-passed (c .before .before .before .before .before) ∙ at-stop (from-settings (a .f) s) (room-asked (c .before .before .before)) (c .before .enum-told4 .given .1))
+    refused-write (a .f) s (now (a .file)) (why-of (c .before .before .before .before .before .unless .result)) (c .why2 .result) (c .why2 .ensures)
+    (rules-passed (c .before .before .before) ∙ at-stop (from-settings (a .f) s) (room-asked (c .before .before .before .before .before)) (c .before .enum-told4 .given .1))
 
 check-settings-requires : tie.Need-check-settings-requires
 check-settings-requires c κs =
     let a = c .before .before .before .before .before .before .before .before .before .args in
-    let n = scans-inside (a .f) (last-pass (c .before .before .before .before .before .before .rules .ensures) (c .before .before .before .before .enum-told .given .1)) in
-    let r = room-inside (a .f .scans) (length (now (a .settings))) (length (now (a .file))) (last-pass (room-asked (c .before .before)) (c .enum-told3 .given .1)) in
+    let n = scans-inside (a .f) (last-pass (c .before .before .before .before .before .before .rules .ensures) (c .before .before .enum-told .given .1)) in
+    let r = room-inside (a .f .scans) (length (now (a .settings))) (length (now (a .file))) (last-pass (room-asked (c .before .before .before .before)) (c .enum-told3 .given .1)) in
     (n .0, (n .1, r .0))
 
 enum-told-5 : tie.Need-enum-told-5
@@ -111,8 +111,8 @@ put-file-requires c κs =
     let a = c .before .before .before .before .before .before .before .before .before .before .before .before .before .args in
     let s = now (a .settings) in
     let room = length (now (a .file)) in
-    let n = scans-inside (a .f) (last-pass (c .before .before .before .before .before .before .before .before .before .before .rules .ensures) (c .before .before .before .before .before .before .before .before .enum-told .given .1)) in
-    let r = room-inside (a .f .scans) (length s) room (last-pass (room-asked (c .before .before .before .before .before .before)) (c .before .before .before .before .enum-told3 .given .1)) in
+    let n = scans-inside (a .f) (last-pass (c .before .before .before .before .before .before .before .before .before .before .rules .ensures) (c .before .before .before .before .before .before .enum-told .given .1)) in
+    let r = room-inside (a .f .scans) (length s) room (last-pass (room-asked (c .before .before .before .before .before .before .before .before)) (c .before .before .before .before .enum-told3 .given .1)) in
     ((n .1, r .1), (r .0, settings-small (a .f) s room (all-passed (c .before))))
 
 same-length : tie.Need-same-length
@@ -123,7 +123,7 @@ returns-4 c =
     let a = c .before .before .before .before .before .before .before .before .before .before .before .before .before .before .before .before .args in
     let s = now (a .settings) in
     let room = length (now (a .file)) in
-    let r = room-inside (a .f .scans) (length s) room (last-pass (room-asked (c .before .before .before .before .before .before .before .before .before)) (c .before .before .before .before .before .before .before .enum-told3 .given .1)) in
+    let r = room-inside (a .f .scans) (length s) room (last-pass (room-asked (c .before .before .before .before .before .before .before .before .before .before .before)) (c .before .before .before .before .before .before .before .enum-told3 .given .1)) in
     accepted-write (a .f) s (now (a .file)) _ (c .before .before .put-file .result) (c .before .before .put-file .ensures .0) (r .1) (c .before .before .put-file .ensures .1) (all-passed (c .before .before .before .before))
 
 pub write-plan-spec : {M : Type 1} → statement M
@@ -131,12 +131,12 @@ write-plan-spec =
     tie.close
     (tie.spec
     rules-requires
+    too-short-requires
+    unless-requires
     enum-told
     enum-told-2
     why-requires
     returns
-    too-short-requires
-    unless-requires
     enum-told-3
     enum-told-4
     why-requires-2

@@ -9,7 +9,9 @@ use Rattle.planner.proofs.multiplier.multiplier_of.Statement.{statement
 use Rattle.planner.proofs.multiplier.multiplier_of.Tie as tie
 
 multiplier-pass-requires : tie.Need-multiplier-pass-requires
-multiplier-pass-requires c κs = (sound-fit (c .before .before .before .before .before .pre), multiplier-in (sound-fourth (c .before .before .before .before .before .pre)))
+multiplier-pass-requires c κs =
+    let s = c .before .before .before .before .before in
+    (sound-fit (s .pre), omega (arith, multiplier-in {n = s .args .n} {d = s .args .d} (sound-fourth (s .pre))))
 
 finish-requires : tie.Need-finish-requires
 finish-requires c κs =

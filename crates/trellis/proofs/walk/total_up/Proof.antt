@@ -84,33 +84,33 @@ inside c =
     let h = cell-inside (s .args .scans) (s .args .settings) _ _ _ (l .loop-test .taken) (l .before .loop .inv .1) (setting (c .before)) in
     (omega (arith, c .number .ensures, s .pre .0 .rates-long), omega (arith, c .number .ensures, s .pre .0 .distortions-long))
 
-mul-wide : tie.Need-mul-wide Inv-loop μ-loop
-mul-wide c = let h = inside c .0 in search needs
+mul-rate-of : tie.Need-mul-rate-of Inv-loop μ-loop
+mul-rate-of c = let h = inside c .0 in search needs
 
-shared-slice-read-wide : tie.Need-shared-slice-read-wide Inv-loop μ-loop
-shared-slice-read-wide c = inside (c .before) .0
+shared-slice-read-rate-of : tie.Need-shared-slice-read-rate-of Inv-loop μ-loop
+shared-slice-read-rate-of c = inside (c .before) .0
 
-wide-requires : tie.Need-wide-requires Inv-loop μ-loop
-wide-requires c κs = search needs
+rate-of-requires : tie.Need-rate-of-requires Inv-loop μ-loop
+rate-of-requires c κs = search needs
 
-mul-wide-2 : tie.Need-mul-wide-2 Inv-loop μ-loop
-mul-wide-2 c = let h = inside (c .before .before) .1 in search needs
+mul-distortion-of : tie.Need-mul-distortion-of Inv-loop μ-loop
+mul-distortion-of c = let h = inside (c .before .before) .1 in search needs
 
-shared-slice-read-wide-2 : tie.Need-shared-slice-read-wide-2 Inv-loop μ-loop
-shared-slice-read-wide-2 c = inside (c .before .before .before) .1
+shared-slice-read-distortion-of : tie.Need-shared-slice-read-distortion-of Inv-loop μ-loop
+shared-slice-read-distortion-of c = inside (c .before .before .before) .1
 
-wide-requires-2 : tie.Need-wide-requires-2 Inv-loop μ-loop
-wide-requires-2 c κs = search needs
+distortion-of-requires : tie.Need-distortion-of-requires Inv-loop μ-loop
+distortion-of-requires c κs = search needs
 
 -- what is read are the scan's cells
-read : (c : tie.After-wide2 Inv-loop μ-loop) →
+read : (c : tie.After-distortion-of Inv-loop μ-loop) →
     let a = c .before .before .before .before .before .before .before .before .before .before .before .before .args in
     let l = c .before .before .before .before .before .before .before .before .loop in
     let k = cell (a .settings) (l .i) (l .p) (choice (a .settings) (a .scratch .now) (l .i) (l .p)) in
-    (c .before .before .wide .result ≡ getD (a .rates .now) k 0) × (c .wide2 .result ≡ getD (a .distortions .now) k 0)
+    (c .before .before .rate-of .result .0 ≡ getD (a .rates .now) k 0) × (c .distortion-of .result .0 ≡ getD (a .distortions .now) k 0)
 read c =
     let e = rw (c .before .before .before .before .before .narrow .ensures .0) at (c .before .before .before .before .number .ensures) in
-    (c .before .before .wide .ensures .0 ∙ rw e, c .wide2 .ensures .0 ∙ rw e)
+    (c .before .before .rate-of .ensures ∙ rw e, c .distortion-of .ensures ∙ rw e)
 
 with-scan-requires : tie.Need-with-scan-requires Inv-loop μ-loop
 with-scan-requires c κs =
@@ -151,12 +151,12 @@ total-up-spec =
     shared-slice-read-narrow
     narrow-requires
     number-requires
-    mul-wide
-    shared-slice-read-wide
-    wide-requires
-    mul-wide-2
-    shared-slice-read-wide-2
-    wide-requires-2
+    mul-rate-of
+    shared-slice-read-rate-of
+    rate-of-requires
+    mul-distortion-of
+    shared-slice-read-distortion-of
+    distortion-of-requires
     with-scan-requires
     add-i
     loop-less
