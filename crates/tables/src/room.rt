@@ -5,6 +5,8 @@ use crate::limits::MOST_SCANS;
 use crate::limits::MOST_SETTINGS;
 use crate::refusal::Refusal;
 ghost use mathlib.Core.Path.{_≡_};
+ghost use Prim.Native.Nat.{_*_, _≤_, _<_, _^_};
+ghost use Rattle.tables.specs.Limits.{«most-channels»};
 ghost use Rattle.tables.specs.Planning.{«zero-or-over»};
 ghost use Rattle.tables.specs.Room.{«room-of», «room-reply»};
 
@@ -32,6 +34,14 @@ pub fn outside(most: u64, x: u64) -> bool
     most < x
 }
 
+// The bytes of one table for all channels: four for each cell.
+fn table_bytes(channels: u64, cells: u64) -> u64
+    requires { ⌜ (channels ≤ most-channels) × (4 * channels * cells < 2 ^ 64) ⌝ }
+    ensures { λ r. ⌜ r ≡ 4 * channels * cells ⌝ }
+{
+    4 * channels * cells
+}
+
 // What a host needs to lend for its channels, scans and settings: the true products, or a refusal.
 pub fn room_for(channels: u64, scans: u64, settings: u64) -> RoomAnswer
     ensures { λ r. ⌜ room-reply r ≡ room-of channels scans settings ⌝ }
@@ -48,7 +58,7 @@ pub fn room_for(channels: u64, scans: u64, settings: u64) -> RoomAnswer
     let cells = cells::count(scans, settings);
     RoomAnswer::Given(Room {
         cells,
-        bytes: 4 * channels * cells,
+        bytes: table_bytes(channels, cells),
         scratch: scans * settings,
     })
 }

@@ -50,17 +50,14 @@ returns-3 c = refuses-settings _ _ _ (passed-channels (c .before .before .before
 count-requires : tie.Need-count-requires
 count-requires c κs = omega (arith, in-range (passed-scans (c .before .before)), in-range (passed-settings c))
 
-mul-t11 : tie.Need-mul-t11
-mul-t11 c = omega (arith, in-range (passed-channels (c .before .before .before .before .before)))
+table-bytes-requires : tie.Need-table-bytes-requires
+table-bytes-requires c κs = (in-range (passed-channels (c .before .before .before .before .before)) .1, omega (arith, bytes c))
 
 mul-t12 : tie.Need-mul-t12
-mul-t12 c = omega (arith, c .count .ensures, bytes c)
-
-mul-t13 : tie.Need-mul-t13
-mul-t13 c = omega (arith, scratch c)
+mul-t12 c = omega (arith, scratch (c .before))
 
 returns-4 : tie.Need-returns-4
-returns-4 c = rw (c .count .ensures) (gives-room _ _ _ (passed-channels (c .before .before .before .before .before)) (passed-scans (c .before .before .before)) (passed-settings (c .before)))
+returns-4 c = rw (c .table-bytes .ensures, c .before .count .ensures) (gives-room _ _ _ (passed-channels (c .before .before .before .before .before .before)) (passed-scans (c .before .before .before .before)) (passed-settings (c .before .before)))
 
 pub room-for-spec : {M : Type 1} → statement M
 room-for-spec =
@@ -73,7 +70,6 @@ room-for-spec =
     outside-requires-3
     returns-3
     count-requires
-    mul-t11
+    table-bytes-requires
     mul-t12
-    mul-t13
     returns-4)
