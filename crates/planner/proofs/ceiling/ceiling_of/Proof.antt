@@ -36,11 +36,13 @@ mul-wipe : tie.Need-mul-wipe
 mul-wipe c =
     let s = c .before .before .before .before .before .before .before .before .before .before .before .before .before .before in
     let fit = sound-fit (s .pre) in
-    omega (arith, product-small {a = s .args .scans} {b = s .args .settings} 1024 (fit .scans) (fit .settings))
+    omega (arith, fit .scans, product-small {a = s .args .scans} {b = s .args .settings} 1024 (fit .scans) (fit .settings))
 
 wipe-requires : tie.Need-wipe-requires
 wipe-requires c κs =
-    fit-framed (fit-framed (sound-fit (c .before .before .before .before .before .before .before .before .before .before .before .before .before .before .pre)) (c .before .before .before .before .before .before .before .before .thrifty-pass .ensures .framed)) (c .before .before .before .thrifty-pass2 .ensures .framed) .room
+    let s = c .before .before .before .before .before .before .before .before .before .before .before .before .before .before in
+    let fit = fit-framed (fit-framed (sound-fit (s .pre)) (c .before .before .before .before .before .before .before .before .thrifty-pass .ensures .framed)) (c .before .before .before .thrifty-pass2 .ensures .framed) in
+    omega (arith, fit .room, sound-plan (s .pre))
 
 same-length-3 : tie.Need-same-length-3
 same-length-3 c = search needs
