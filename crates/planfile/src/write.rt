@@ -69,6 +69,7 @@ pub fn write_plan(f: Fields, settings: &[u8], file: &mut [u8]) -> WriteAnswer
         run_13: false,
         run_48: false,
     };
+    // Neither of the two needs the other. Their order is that of the answers below.
     let headed = rules(marks, f);
     let roomed = unless(
         too_short(f.scans, settings.len() as u64, file.len() as u64),
