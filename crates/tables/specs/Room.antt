@@ -22,8 +22,8 @@ abbrev pub or-answer : Option Refusal → List ℕ → Reply
 or-answer none v = answered v
 or-answer (some r) v = refused r
 
--- "For C channels (1 to 1,048,576), N and Q, the answer is the cells of one table, bytes of one table for all channels (4 × C × cells), and scratch bytes
--- N × Q for one call."
+-- "For C channels (1 to 1,048,576), N and Q, the answer is the cells of one table, bytes of one table for all channels (4 × C × cells), and
+-- scratch bytes N × Q for one call."
 unfoldable pub room-of : ℕ → ℕ → ℕ → Reply
 room-of C N Q = or-answer (first-refusal (room-checks C N Q)) (cells N Q ∷ 4 * C * cells N Q ∷ N * Q ∷ [])
 
