@@ -1,7 +1,7 @@
 // What the two calls answer, on standard output.
-use planfile::fields::Fields;
 use planfile::read::ReadAnswer;
 use planfile::write::WriteAnswer;
+use rules::Fields;
 use shown::number::put;
 use shown::number::put_refusal;
 

@@ -17,32 +17,33 @@ use Rattle.tables.specs.declared.refusal.Refusal.{Refusal}
 use Rattle.tables.specs.declared.refusal.Refusal.the-variants as refusal
 use Rattle.tables.specs.Limits.{most-scans, most-settings, most-term, most-total, most-cell}
 use Rattle.tables.specs.Refusals.{Reply}
-use Rattle.tables.specs.Series.{Kept as Steps, total, largest}
-use Rattle.tables.specs.Tables.{Table, table, series, law-of}
-use Rattle.tables.specs.Planning.{Asked, Sound, problem-of, zero-or-over, scans-out, settings-out}
+use Rattle.rules.proofs.FieldLaws.{RulesHold, rules-pass}
+use Rattle.tables.specs.Series.{Kept, total, largest}
+use Rattle.tables.specs.Tables.{Table, table, series}
+use Rattle.tables.specs.Law.{law-of}
+use Rattle.checks.specs.Planning.{Asked, Sound, problem-of, scans-out, settings-out}
+use Rattle.checks.specs.Checks.{zero-or-over, when, or-else}
 use Rattle.tables.proofs.RefusalLaws.{answered-or-refused}
 use Rattle.tables.proofs.SeriesLaws.{kept-below}
 use Rattle.tables.proofs.Totals.{average-in-limits}
 use Rattle.tables.proofs.Listing.{law?}
-use Rattle.trellis.specs.Pass.{Fit}
-use Rattle.trellis.proofs.WalkLaws.{fit-legal}
-use Rattle.planner.specs.declared.answer.AveragePlan.{AveragePlan}
-use Rattle.planner.specs.declared.answer.MinmaxPlan.{MinmaxPlan}
-use Rattle.planner.specs.declared.answer.AverageAnswer.the-variants as average-answer
-use Rattle.planner.specs.declared.answer.MinmaxAnswer.the-variants as minmax-answer
-use Rattle.planner.specs.Promise.{unsound, no-sequence, none-within, planned, IsAveragePlan, IsMinmaxPlan, AveragePromise, MinmaxPromise}
-use Rattle.planner.proofs.CheckLaws.{sound-fit}
-use Rattle.planner.proofs.SeekLaws.{sums-small, peak-fits}
-use Rattle.planfile.specs.declared.fields.Fields.{Fields}
-use Rattle.planfile.specs.File.{file-length}
-use Rattle.planfile.specs.Rules.{law-broken, n-broken, d-broken, rate-broken, peak-broken, entry-broken, when, or-else}
+use Rattle.checks.specs.Fit.{Fit}
+use Rattle.checks.proofs.FitLaws.{fit-legal}
+use Rattle.promise.specs.declared.AveragePlan.{AveragePlan}
+use Rattle.promise.specs.declared.MinmaxPlan.{MinmaxPlan}
+use Rattle.promise.specs.declared.AverageAnswer.the-variants as average-answer
+use Rattle.promise.specs.declared.MinmaxAnswer.the-variants as minmax-answer
+use Rattle.promise.specs.Promise.{unsound, no-sequence, none-within, planned, IsAveragePlan, IsMinmaxPlan, AveragePromise, MinmaxPromise}
+use Rattle.checks.proofs.PlanningLaws.{sound-fit}
+use Rattle.seek.proofs.SeekLaws.{sums-small, peak-fits}
+use Rattle.rules.specs.declared.Fields.{Fields}
+use Rattle.blocks.specs.File.{file-length}
+use Rattle.entries.specs.Entries.{law-broken, entry-broken}
+use Rattle.rules.specs.Rules.{n-broken, d-broken, rate-broken, peak-broken}
 use Rattle.planfile.specs.Writing.{no-marks, write-refusal}
-use Rattle.planfile.proofs.CheckLaws.{none-first}
-use Rattle.planfile.proofs.FieldLaws.{Kept, kept-passes}
+use Rattle.checks.proofs.CheckLaws.{none-first}
 use Rattle.planfile.proofs.Back.{settings-back, fields-back, read-back}
 use Rattle.filing.specs.Filing.{average-fields, minmax-fields, ReadsBack}
-
--- ---- one field
 
 -- a number in its range is neither 0 nor over
 in-range-kept : (most x : ℕ) → 1 ≤ x → x ≤ most → zero-or-over most x ≡ false
@@ -81,8 +82,6 @@ peak-kept peak distortion h g = rw (le-ltb most-cell peak h, le-ltb distortion p
 floor-at-most : (P : Problem) (B n d F : ℕ) (s : List ℕ) → AverageFloor P B n d s F → P .rate s ≤ B → F ≤ P .distortion s
 floor-at-most P B n d F s f h = f .least (P .distortion s) (omega (arith, mul-le-mul-left n h))
 
--- ---- one setting
-
 -- the largest of some numbers is at most their sum
 largest-at-most : (f : ℕ → ℕ → ℕ → ℕ) (i p : ℕ) (s : List ℕ) → largest f i p s ≤ total f i p s
 largest-at-most f i p [] = omega arith
@@ -95,7 +94,7 @@ law-kept (suc zero) p q h = rw (le-ltb (p + 2) q (h .1), le-ltb (q + 2) p (h .0)
 law-kept (suc (suc k)) p q h = absurd h
 
 -- in an allowed sequence each setting keeps the law with the one before
-steps-kept : (t : Table) (i p : ℕ) (s : List ℕ) → Steps (series t) i p s → (j : ℕ) → suc j < length s →
+steps-kept : (t : Table) (i p : ℕ) (s : List ℕ) → Kept (series t) i p s → (j : ℕ) → suc j < length s →
     t .law (getD s j 0) (getD s (suc j) 0)
 steps-kept t i p [] k j h = absurd (omega arith)
 steps-kept t i p (q ∷ []) k j h = absurd (omega arith)
@@ -115,16 +114,14 @@ later-kept N Q law e j h g l =
     let p : suc j - 1 ≡ j = omega arith in
     rw (lt-ltb (suc j) N h, lt-ltb (e (suc j)) Q g, lt-ltb 0 (suc j) (omega arith), p, law-kept law (e j) (e (suc j)) l) refl
 
--- ---- the writer
-
 -- where every rule is kept, the writer refuses for want of room alone
-only-room : (f : Fields) (settings : List ℕ) (room : ℕ) → Kept no-marks f → f .scans ≤ length settings →
+only-room : (f : Fields) (settings : List ℕ) (room : ℕ) → RulesHold no-marks f → f .scans ≤ length settings →
     ((j : ℕ) → j < f .scans → entry-broken (f .scans) (f .settings) (f .law) (λ j. getD settings j 0) j ≡ false) →
     write-refusal f settings room ≡ when (ltb room (file-length (f .scans))) refusal.Buffer
 unfolding write-refusal
 only-room f settings room k h g =
     rw (
-      kept-passes no-marks f k,
+      rules-pass no-marks f k,
       le-ltb (length settings) (f .scans) h,
       none-first (f .scans) (entry-broken (f .scans) (f .settings) (f .law) (λ j. getD settings j 0)) 0 (λ i l b. g i (omega arith)),
     )
@@ -133,8 +130,6 @@ only-room f settings room k h g =
     last : (t : Bool) → or-else (when t refusal.Buffer) none ≡ when t refusal.Buffer
     last true = refl
     last false = refl
-
--- ---- a sound call
 
 -- the table of a call
 abbrev table-of : Asked → Table
@@ -152,8 +147,6 @@ module _ {a : Asked} (o : Sound false a) where
   -- and Q
   count-kept : settings-out (a .Q) ≡ false
   count-kept = in-range-kept most-settings (a .Q) (fit .some-settings) (fit .settings)
-
--- ---- an allowed sequence of a sound call, handed over
 
 module _ {a : Asked} (o : Sound false a) (s : List ℕ) (ok : problem-of a .allowed s) where
   -- the settings are below Q, whatever stands after them
@@ -194,8 +187,6 @@ module _ {a : Asked} (o : Sound false a) (s : List ℕ) (ok : problem-of a .allo
   peak-below : problem-of a .peak s ≤ problem-of a .distortion s
   peak-below = largest-at-most (series (table-of a) .distortion) 0 0 s
 
--- ---- the header of an average plan
-
 module _ {a : Asked} (o : Sound false a) {B : ℕ} {s v : List ℕ} (q : IsAveragePlan (problem-of a) B s v) where
   -- the sequence is allowed
   average-allowed : problem-of a .allowed s
@@ -207,7 +198,7 @@ module _ {a : Asked} (o : Sound false a) {B : ℕ} {s v : List ℕ} (q : IsAvera
 
   -- the fields of a plan with these values keep their rules
   average-rules : (m : AveragePlan) → m .n ∷ m .d ∷ m .totals .rate .0 ∷ m .totals .distortion .0 ∷ m .totals .peak ∷ m .floor .0 ∷ [] ≡ v →
-      Kept no-marks (average-fields (a .N) (a .Q) (a .law) B m)
+      RulesHold no-marks (average-fields (a .N) (a .Q) (a .law) B m)
   average-rules m e =
       let ok = average-allowed in
       let z = e ∙ q .values in
@@ -235,8 +226,6 @@ module _ {a : Asked} (o : Sound false a) {B : ℕ} {s v : List ℕ} (q : IsAvera
         run-48 = refl;
       }
 
--- ---- the header of a minmax plan
-
 module _ {a : Asked} (o : Sound false a) {B : ℕ} {s v : List ℕ} (q : IsMinmaxPlan (problem-of a) B s v) where
   -- the sequence is allowed
   minmax-allowed : problem-of a .allowed s
@@ -244,7 +233,7 @@ module _ {a : Asked} (o : Sound false a) {B : ℕ} {s v : List ℕ} (q : IsMinma
 
   -- the fields of a plan with these values keep their rules
   minmax-rules : (m : MinmaxPlan) → m .ceiling ∷ m .totals .rate .0 ∷ m .totals .distortion .0 ∷ m .totals .peak ∷ [] ≡ v →
-      Kept no-marks (minmax-fields (a .N) (a .Q) (a .law) B m)
+      RulesHold no-marks (minmax-fields (a .N) (a .Q) (a .law) B m)
   minmax-rules m e =
       let ok = minmax-allowed in
       let z = e ∙ q .values in
@@ -267,11 +256,9 @@ module _ {a : Asked} (o : Sound false a) {B : ℕ} {s v : List ℕ} (q : IsMinma
         run-48 = refl;
       }
 
--- ---- the theorems
-
 -- a sequence of a sound call, handed over with fields that keep their rules
 handed-written : {a : Asked} → Sound false a → (s : List ℕ) → problem-of a .allowed s → (f : Fields) → f .scans ≡ a .N →
-    f .settings ≡ a .Q → f .law ≡ a .law → Kept no-marks f → (rest : List ℕ) (room : ℕ) →
+    f .settings ≡ a .Q → f .law ≡ a .law → RulesHold no-marks f → (rest : List ℕ) (room : ℕ) →
     write-refusal f (s ++ rest) room ≡ when (ltb room (file-length (a .N))) refusal.Buffer
 handed-written o s ok f en eq el k rest room =
     rw (← en)

@@ -4,10 +4,10 @@ use mathlib.Core.Option.{none}
 use mathlib.Core.List.{List}
 use Prim.Native.Nat.{ℕ, _≤_}
 use lib.ListN.{take}
-use Rattle.planner.specs.declared.answer.AveragePlan.{AveragePlan}
-use Rattle.planner.specs.declared.answer.MinmaxPlan.{MinmaxPlan}
-use Rattle.planfile.specs.declared.fields.Fields.{Fields}
-use Rattle.planfile.specs.File.{file-of, entry-at}
+use Rattle.promise.specs.declared.AveragePlan.{AveragePlan}
+use Rattle.promise.specs.declared.MinmaxPlan.{MinmaxPlan}
+use Rattle.rules.specs.declared.Fields.{Fields}
+use Rattle.blocks.specs.File.{file-of, entry-at}
 use Rattle.planfile.specs.Reading.{fields-of, read-refusal, entries}
 
 -- "kind, 0 average": N, Q, law and B of the call, and what the plan holds

@@ -1,8 +1,8 @@
 // From a plan to its file: the fields of an average and of a minmax plan. Every plan that the planner gives can be written.
-use planfile::fields::Fields;
-use planner::answer::AveragePlan;
-use planner::answer::MinmaxPlan;
-use weights::cost::Dist;
+use keys::cost::Dist;
+use promise::AveragePlan;
+use promise::MinmaxPlan;
+use rules::Fields;
 ghost use mathlib.Core.Path.{_≡_};
 ghost use Rattle.filing.specs.Filing.{«average-fields», «minmax-fields»};
 

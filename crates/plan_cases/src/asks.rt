@@ -1,9 +1,9 @@
 // The four calls, each with what it answers written out.
 use crate::feed::narrow;
 use crate::show::put_totals;
-use planner::answer::AverageAnswer;
-use planner::answer::MinmaxAnswer;
-use planner::answer::PlanAnswer;
+use promise::AverageAnswer;
+use promise::MinmaxAnswer;
+use promise::PlanAnswer;
 use shown::number::put;
 use shown::number::put_refusal;
 

@@ -1,6 +1,6 @@
 // What the four calls answer, on standard output.
 use shown::number::put;
-use trellis::walk::Totals;
+use walk::Totals;
 
 pub fn put_totals(t: Totals) {
     let rate = t.rate;

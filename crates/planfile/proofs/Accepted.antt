@@ -10,26 +10,30 @@ use lib.ListN.{length, getD}
 use lib.Seq.{take-all}
 use borrow.Author.Tests.{eqb-true, not-false, ltb-true, ltb-false, le-ltb}
 use Rattle.tables.specs.declared.refusal.Refusal.the-variants as refusal
-use Rattle.tables.specs.Planning.{scans-out}
-use Rattle.tables.proofs.Tests.{neither}
-use Rattle.planfile.specs.declared.fields.Fields.{Fields}
-use Rattle.planfile.specs.Bytes.{number-at}
-use Rattle.planfile.specs.File.{entry-of, header, data-blocks, file-length, file-of, entry-at}
-use Rattle.planfile.specs.Rules.{entry-broken, law-broken, found, when}
-use Rattle.planfile.specs.Reading.{length-out, block-broken, bad-block, fields-of, marks-of, broken-field, bad-entry}
-use Rattle.planfile.specs.Reading.{read-refusal, entries}
+use Rattle.checks.specs.Planning.{scans-out}
+use Rattle.laws.proofs.Tests.{neither}
+use Rattle.rules.specs.declared.Fields.{Fields}
+use Rattle.bytes.specs.Bytes.{number-at}
+use Rattle.blocks.specs.File.{entry-of, header, data-blocks, file-length, file-of, entry-at}
+use Rattle.entries.specs.Entries.{entry-broken, law-broken}
+use Rattle.checks.specs.Checks.{found, when}
+use Rattle.blocks.specs.Blocks.{length-out, block-broken, bad-block}
+use Rattle.planfile.specs.Reading.{fields-of, marks-of, broken-field, bad-entry, read-refusal, entries}
 use Rattle.planfile.specs.Writing.{no-marks, write-short, write-refusal}
-use Rattle.planfile.proofs.PartLaws.{part-join}
-use Rattle.planfile.proofs.NumberLaws.{Bytes}
-use Rattle.planfile.proofs.HalfLaws.{length-entries, getD-entries}
-use Rattle.planfile.proofs.CheckLaws.{none-else, else-none, none-when, none-found, none-so, none-first}
-use Rattle.planfile.proofs.FieldLaws.{Kept, kept, kept-passes, limited, same-broken}
-use Rattle.planfile.proofs.BlockLaws.{within, right-length, sealed-part, header-part, blocks-part}
+use Rattle.bytes.proofs.PartLaws.{part-join}
+use Rattle.bytes.proofs.NumberLaws.{Bytes}
+use Rattle.planfile.proofs.EntryLaws.{length-entries, getD-entries}
+use Rattle.checks.proofs.CheckLaws.{none-else, else-none, none-when, none-found, none-so, none-first}
+use Rattle.rules.proofs.FieldLaws.{RulesHold, rules-hold, rules-pass, limited}
+use Rattle.planfile.proofs.FieldLaws.{same-broken}
+use Rattle.blocks.proofs.LengthLaws.{within, right-length}
+use Rattle.blocks.proofs.SoundLaws.{sealed-part, blocks-part}
+use Rattle.planfile.proofs.HeaderLaws.{header-part}
 
 -- what an accepted file has passed
 pub record Passed (file : List ℕ) (room : ℕ) : Type 0 where
   pub blocks : bad-block file ≡ none
-  pub rules : Kept (marks-of file) (fields-of file)
+  pub rules : RulesHold (marks-of file) (fields-of file)
   pub enough : fields-of file .scans ≤ room
   pub entries : bad-entry file ≡ none
 
@@ -43,7 +47,7 @@ passed file room e =
     let d = none-else (when (ltb room (fields-of file .scans)) refusal.Buffer) _ (c .1) in
     record {
       blocks = none-found refusal.Block (bad-block file) (b .0);
-      rules = kept (marks-of file) (fields-of file) (c .0);
+      rules = rules-hold (marks-of file) (fields-of file) (c .0);
       enough = ltb-false room (fields-of file .scans) (none-when (ltb room (fields-of file .scans)) refusal.Buffer (d .0));
       entries = none-found refusal.Entry (bad-entry file) (d .1);
     }
@@ -51,7 +55,7 @@ passed file room e =
 -- entries that keep their rules are those of a plan of the first N of them: from N on they are zero
 shown : (N Q law : ℕ) (e : ℕ → ℕ) (j : ℕ) → entry-broken N Q law e j ≡ false → entry-of N (entries e 0 N) j ≡ e j
 unfolding entry-broken
-shown N Q law e j kept = by (ltb j N) (ltb-true j N) kept
+shown N Q law e j rules-hold = by (ltb j N) (ltb-true j N) rules-hold
   where
     by : (b : Bool) → (b ≡ true → j < N)
         → cond b (not (ltb (e j) Q) || (ltb 0 j && law-broken law (e (j - 1)) (e j))) (not (eqb (e j) 0)) ≡ false
@@ -106,7 +110,7 @@ module _ (file : List ℕ) (room : ℕ) (h : Passed file room) where
       ∙ take-all (512 + 512 * n) file (omega arith)
 
   -- the header rules hold of what is written, too
-  written-rules : Kept no-marks f
+  written-rules : RulesHold no-marks f
   written-rules =
       let k = h .rules in
       record {
@@ -149,7 +153,7 @@ module _ (file : List ℕ) (room : ℕ) (h : Passed file room) where
       → write-refusal f settings room₂ ≡ none
   unfolding write-refusal
   written-accepted room₂ g =
-      else-none _ _ (kept-passes no-marks f written-rules)
+      else-none _ _ (rules-pass no-marks f written-rules)
       (else-none _ _ (ap (λ (b : Bool). when b refusal.Buffer) (not-short room₂ g))
       (ap (found refusal.Entry) (none-first (f .scans) _ 0 (λ j l k. written-entries j (omega arith)))))
 

@@ -10,21 +10,23 @@ use lib.Dec.{ltb}
 use lib.ListN.{length, getD, take, length-append}
 use borrow.Author.Tests.{lt-ltb, le-ltb}
 use Rattle.tables.specs.declared.refusal.Refusal.the-variants as refusal
-use Rattle.planfile.specs.declared.fields.Fields.{Fields}
-use Rattle.planfile.specs.Bytes.{le, number-at}
-use Rattle.planfile.specs.File.{header, sealed, entry-of, data-from, data-blocks, file-length, file-of, entry-at}
-use Rattle.planfile.specs.Rules.{entry-broken, when, or-else}
-use Rattle.planfile.specs.Reading.{length-out, block-broken, bad-block, fields-of, other-length, marks-of, broken-field, bad-entry}
-use Rattle.planfile.specs.Reading.{read-refusal, entries}
+use Rattle.rules.specs.declared.Fields.{Fields}
+use Rattle.bytes.specs.Bytes.{le, number-at}
+use Rattle.blocks.specs.File.{header, sealed, entry-of, data-from, data-blocks, file-length, file-of, entry-at, other-length}
+use Rattle.entries.specs.Entries.{entry-broken}
+use Rattle.checks.specs.Checks.{when, or-else}
+use Rattle.blocks.specs.Blocks.{length-out, block-broken, bad-block}
+use Rattle.planfile.specs.Reading.{fields-of, marks-of, broken-field, bad-entry, read-refusal, entries}
 use Rattle.planfile.specs.Writing.{no-marks, write-refusal}
-use Rattle.planfile.proofs.NumberLaws.{value-le}
-use Rattle.planfile.proofs.HalfLaws.{entries-part}
-use Rattle.planfile.proofs.CheckLaws.{none-first}
-use Rattle.planfile.proofs.FieldLaws.{kept-passes, Limited, limited, Writable, writable, same-broken, entry-small}
-use Rattle.planfile.proofs.BlockLaws.{few-blocks, within, length-in, same-length, length-sealed, block-sound}
-use Rattle.planfile.proofs.BlockLaws.{length-header, small-header, header-number, length-data, data-sound, entry-there}
-
--- ---- the length
+use Rattle.bytes.proofs.NumberLaws.{value-le}
+use Rattle.planfile.proofs.EntryLaws.{entries-part}
+use Rattle.checks.proofs.CheckLaws.{none-first}
+use Rattle.rules.proofs.FieldLaws.{rules-pass, Limited, limited}
+use Rattle.planfile.proofs.FieldLaws.{Writable, writable, same-broken, entry-small}
+use Rattle.blocks.proofs.LengthLaws.{few-blocks, length-in, same-length, within}
+use Rattle.blocks.proofs.BlockLaws.{length-sealed, block-sound}
+use Rattle.blocks.proofs.HeaderLaws.{length-header, small-header, header-number}
+use Rattle.blocks.proofs.DataLaws.{length-data, data-sound, entry-there}
 
 -- block 0 is one block
 block-0 : (f : Fields) → length (sealed (header f)) ≡ 512
@@ -44,8 +46,6 @@ length-sound f settings = rw (length-back f settings) (length-in (f .scans))
 -- there are as many blocks as were written
 blocks-back : (f : Fields) (settings : List ℕ) → length (file-of f settings) / 512 ≡ suc (data-blocks (f .scans))
 blocks-back f settings = omega (arith, length-back f settings)
-
--- ---- with what the writer has checked
 
 module _ (f : Fields) (settings : List ℕ) (k : Writable f settings) where
   -- the file that is written
@@ -109,7 +109,7 @@ module _ (f : Fields) (settings : List ℕ) (k : Writable f settings) where
   -- no field breaks its rule
   kept-rules : f .budget < 2 ^ 64 → broken-field file ≡ none
   unfolding broken-field
-  kept-rules h = rw (kept-marks, kept-fields h) (kept-passes no-marks f (k .rules))
+  kept-rules h = rw (kept-marks, kept-fields h) (rules-pass no-marks f (k .rules))
 
   -- each entry of the data blocks is the one that was written there
   kept-entry : (j : ℕ) → j < 1008 * data-blocks (f .scans) → entry-at file j ≡ entry-of (f .scans) settings j
@@ -146,8 +146,6 @@ module _ (f : Fields) (settings : List ℕ) (k : Writable f settings) where
       rw (kept-fields h, p)
       (none-first (1008 * data-blocks (f .scans)) (entry-broken (f .scans) (f .settings) (f .law) (entry-at file)) 0
       (λ i l g. entry-kept i (omega arith)))
-
--- ---- theorem a
 
 module _ (f : Fields) (settings : List ℕ) (room : ℕ) (written : write-refusal f settings room ≡ none) where
   -- the settings read back

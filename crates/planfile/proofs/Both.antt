@@ -11,18 +11,18 @@ use lib.ListN.{length, getD, take}
 use borrow.Author.Tests.{le-ltb}
 use Rattle.tables.specs.declared.refusal.Refusal.{Refusal}
 use Rattle.tables.specs.declared.refusal.Refusal.the-variants as refusal
-use Rattle.tables.specs.Planning.{first-refusal}
-use Rattle.tables.proofs.Tests.{never}
-use Rattle.planfile.specs.declared.fields.Fields.{Fields}
-use Rattle.planfile.specs.File.{file-length, file-of, entry-at}
-use Rattle.planfile.specs.Rules.{header-rules, entry-broken, first-from, found, when, or-else}
-use Rattle.planfile.specs.Reading.{length-out, bad-block, fields-of, broken-field, bad-entry, read-refusal, entries}
+use Rattle.checks.specs.Checks.{first-refusal, first-from, when, or-else, found}
+use Rattle.laws.proofs.Tests.{never}
+use Rattle.rules.specs.declared.Fields.{Fields}
+use Rattle.blocks.specs.File.{file-length, file-of, entry-at}
+use Rattle.rules.specs.Rules.{header-rules}
+use Rattle.entries.specs.Entries.{entry-broken}
+use Rattle.blocks.specs.Blocks.{length-out, bad-block}
+use Rattle.planfile.specs.Reading.{fields-of, broken-field, bad-entry, read-refusal, entries}
 use Rattle.planfile.specs.Writing.{no-marks, write-short, write-refusal}
-use Rattle.planfile.proofs.NumberLaws.{number-small}
+use Rattle.bytes.proofs.NumberLaws.{number-small}
 use Rattle.planfile.proofs.Back.{fields-back, settings-back, read-back}
 use Rattle.planfile.proofs.Accepted.{passed, accepted-file, accepted-plan}
-
--- ---- theorem c: the reader accepts exactly the files of plans
 
 -- A plan that has this file: the writer writes it, into a buffer of some length, and its N settings fit a buffer of `room`. The budget is a
 -- number of 64 bits, as in the code.
@@ -59,8 +59,6 @@ accepted file room p =
 pub accepts-plans : (file : List ℕ) (room : ℕ) → ((i : ℕ) → getD file i 0 < 256) → (read-refusal file room ≡ none) ↔ HasPlan file room
 accepts-plans file room bytes = (plan-of file room bytes, accepted file room)
 
--- ---- the plan of a file is unique
-
 -- the fields of a plan are those of its file
 plan-fields : (file : List ℕ) (room : ℕ) (p : HasPlan file room) → fields-of file ≡ p .fields
 plan-fields file room p = ap fields-of (p .same) ∙ fields-back (p .fields) (p .settings) (p .buffer) (p .written) (p .budget)
@@ -85,8 +83,6 @@ plan-unique file room room′ p q = (same-fields, same-settings)
         sym (plan-settings file room p)
         ∙ ap (λ (f : Fields). entries (entry-at file) 0 (f .scans)) same-fields
         ∙ plan-settings file room′ q
-
--- ---- theorem d: the refusal that is given is the first
 
 -- r is the first refusal among the outcomes of some stages: the stage of this index ends in r, and every stage before it passes
 pub record FirstOf (stages : List (Option Refusal)) (r : Refusal) : Type 0 where

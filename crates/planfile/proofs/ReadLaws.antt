@@ -13,35 +13,23 @@ use borrow.Author.Tests.{eqb-true}
 use Rattle.tables.specs.declared.refusal.Refusal.{Refusal}
 use Rattle.tables.specs.declared.refusal.Refusal.the-variants as refusal
 use Rattle.tables.specs.Refusals.{refused, answered}
-use Rattle.tables.specs.Planning.{scans-out}
-use Rattle.tables.proofs.Tests.{neither, never}
-use Rattle.planfile.specs.declared.fields.Fields.{Fields}
-use Rattle.planfile.specs.declared.stage.Stage.{Stage}
-use Rattle.planfile.specs.declared.stage.Stage.the-variants.{Passed, Stopped}
-use Rattle.planfile.specs.Bytes.{number-at}
-use Rattle.planfile.specs.File.{entry-at, file-length}
-use Rattle.planfile.specs.Rules.{or-else, when, found, first-from, entry-broken}
-use Rattle.planfile.specs.Stages.{ended, why-of}
-use Rattle.planfile.specs.Reading.{length-out, bad-block, broken-field, bad-entry, fields-of, marks-of, other-length, values-of, entries, read-refusal, read-of, settings-after}
-use Rattle.planfile.proofs.CheckLaws.{none-when}
-use Rattle.planfile.proofs.FieldLaws.{kept, limited}
-use Rattle.planfile.proofs.BlockLaws.{right-length, within, few-blocks}
-use Rattle.planfile.proofs.HalfLaws.{length-entries}
-
--- a stage that stopped is the refusal of all that come from it on
-pub at-stop : {z : Stage} {w : Refusal} {o : Option Refusal} (rest : Option Refusal) → ended z ≡ o → z ≡ Stopped w → or-else o rest ≡ some (why-of z)
-at-stop {z} {w} {o} rest e q = ap (λ x. or-else x rest) (sym e ∙ ap ended q) ∙ sym (ap (λ y. some (why-of y)) q)
-
--- a stage that passed leaves it to those after it
-pub at-pass : {z : Stage} {o : Option Refusal} (rest : Option Refusal) → ended z ≡ o → z ≡ Passed → or-else o rest ≡ rest
-at-pass {z} {o} rest e q = ap (λ x. or-else x rest) (sym e ∙ ap ended q)
-
--- the last stage
-pub last-stop : {z : Stage} {w : Refusal} {o : Option Refusal} → ended z ≡ o → z ≡ Stopped w → o ≡ some (why-of z)
-last-stop {z} {w} {o} e q = sym e ∙ ap ended q ∙ sym (ap (λ y. some (why-of y)) q)
-
-pub last-pass : {z : Stage} {o : Option Refusal} → ended z ≡ o → z ≡ Passed → o ≡ none
-last-pass {z} {o} e q = sym e ∙ ap ended q
+use Rattle.checks.specs.Planning.{scans-out}
+use Rattle.laws.proofs.Tests.{neither, never}
+use Rattle.rules.specs.declared.Fields.{Fields}
+use Rattle.checks.specs.declared.stage.Stage.{Stage}
+use Rattle.checks.specs.declared.stage.Stage.the-variants.{Passed}
+use Rattle.bytes.specs.Bytes.{number-at}
+use Rattle.blocks.specs.File.{entry-at, file-length, other-length}
+use Rattle.checks.specs.Checks.{or-else, when, first-from, found}
+use Rattle.entries.specs.Entries.{entry-broken}
+use Rattle.checks.specs.Stages.{ended}
+use Rattle.blocks.specs.Blocks.{length-out, bad-block}
+use Rattle.planfile.specs.Reading.{broken-field, bad-entry, fields-of, marks-of, values-of, entries, read-refusal, read-of, settings-after}
+use Rattle.checks.proofs.CheckLaws.{none-when}
+use Rattle.rules.proofs.FieldLaws.{rules-hold, limited}
+use Rattle.blocks.proofs.LengthLaws.{right-length, few-blocks, within}
+use Rattle.planfile.proofs.EntryLaws.{length-entries}
+use Rattle.checks.proofs.StageLaws.{last-pass}
 
 -- what is left of the reader's stages
 abbrev pub from-entries : List ℕ → Option Refusal
@@ -99,7 +87,7 @@ pub entries-inside : (file : List ℕ) → broken-field file ≡ none
     → (fields-of file .scans ≤ 2016) × ((j : ℕ) → j < fields-of file .scans → 512 * (j / 1008 + 2) ≤ length file)
 unfolding broken-field marks-of fields-of number-at
 entries-inside file e =
-    let k = kept (marks-of file) (fields-of file) e in
+    let k = rules-hold (marks-of file) (fields-of file) e in
     let N = fields-of file .scans in
     let m : N ≤ 1024 = limited (marks-of file) (fields-of file) k .scans in
     let l : length file ≡ file-length N = right-length (length file) N (neither (scans-out N) (other-length (length file) N) (k .scans) .1) in

@@ -1,7 +1,6 @@
 -- Walks that stop at the first thing found. Assumes nothing.
 use mathlib.Core.Path.{_≡_, refl, sym, ap, _∙_}
 use mathlib.Core.Bool.{Bool, true, false, not, _||_}
-use mathlib.Core.Option.{some}
 use mathlib.Core.List.{List, [], _∷_}
 use Prim.Native.Nat.{ℕ, zero, suc, _+_, _<_}
 use native.Mathlib.Omega.{arith}
@@ -9,25 +8,7 @@ use lib.Dec.{eqb}
 use lib.ListN.{length, getD, drop}
 use lib.Seq.{getD-drop}
 use borrow.Author.Tests.{eq-eqb, ne-eqb}
-use Rattle.planfile.specs.Rules.{first-from}
 use Rattle.planfile.specs.Reading.{differ}
-
--- the first that is so, where none before it is
-pub first-found : (bad : ℕ → Bool) (j k n : ℕ) → ((i : ℕ) → i < k → bad (j + i) ≡ false) → k < n → bad (j + k) ≡ true
-    → first-from bad j n ≡ some (j + k)
-first-found bad j k zero none-before h e = absurd (omega arith)
-first-found bad j zero (suc n) none-before h e =
-    let z : j + 0 ≡ j = omega arith in
-    let t : bad j ≡ true = rw z at e in
-    rw (t, z) refl
-first-found bad j (suc k) (suc n) none-before h e =
-    let z : j + 0 ≡ j = omega arith in
-    let s : j + suc k ≡ suc j + k = omega arith in
-    let f : bad j ≡ false = rw z at (none-before 0 (omega arith)) in
-    rw (f, s)
-    (first-found bad (suc j) k n
-    (λ i l. let p : suc j + i ≡ j + suc i = omega arith in rw p (none-before (suc i) (omega arith)))
-    (omega arith) (rw s at e))
 
 next-byte : (t : List ℕ) (i : ℕ) → getD (drop 1 t) i 0 ≡ getD t (suc i) 0
 next-byte t i = let e : 1 + i ≡ suc i = omega arith in getD-drop 1 t i 0 ∙ ap (λ n. getD t n 0) e

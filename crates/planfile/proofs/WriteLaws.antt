@@ -13,14 +13,18 @@ use borrow.Author.Tests.{ltb-false, lt-ltb}
 use Rattle.tables.specs.declared.refusal.Refusal.{Refusal}
 use Rattle.tables.specs.declared.refusal.Refusal.the-variants as refusal
 use Rattle.tables.specs.Refusals.{refused, answered}
-use Rattle.tables.specs.Planning.{first-refusal, scans-out}
-use Rattle.tables.proofs.Tests.{in-range, neither}
-use Rattle.planfile.specs.declared.fields.Fields.{Fields}
-use Rattle.planfile.specs.File.{sealed, data-block, data-from, file-of, file-length}
-use Rattle.planfile.specs.Rules.{or-else, when, found, first-from, entry-broken, header-rules}
+use Rattle.checks.specs.Checks.{first-refusal, or-else, when, first-from, found}
+use Rattle.checks.specs.Planning.{scans-out}
+use Rattle.checks.proofs.RangeLaws.{in-range}
+use Rattle.laws.proofs.Tests.{neither}
+use Rattle.rules.specs.declared.Fields.{Fields}
+use Rattle.blocks.specs.File.{sealed, data-block, data-from, file-of, file-length}
+use Rattle.entries.specs.Entries.{entry-broken}
+use Rattle.rules.specs.Rules.{header-rules}
 use Rattle.planfile.specs.Writing.{no-marks, write-short, write-refusal, write-of, file-after}
-use Rattle.planfile.proofs.CheckLaws.{none-when}
-use Rattle.planfile.proofs.FieldLaws.{kept, writable, entry-small}
+use Rattle.checks.proofs.CheckLaws.{none-when}
+use Rattle.rules.proofs.FieldLaws.{rules-hold}
+use Rattle.planfile.proofs.FieldLaws.{writable, entry-small}
 use Rattle.planfile.proofs.Back.{length-back}
 
 -- what is left of the writer's stages
@@ -56,9 +60,9 @@ accepted-write f settings file after n q h s e =
           ∙ sym (rw e refl),
     )
 
--- where the rules are kept, N is in its range
+-- where the rules are rules-hold, N is in its range
 pub scans-inside : (f : Fields) → first-refusal (header-rules no-marks f) ≡ none → (1 ≤ f .scans) × (f .scans ≤ 1024)
-scans-inside f e = in-range (neither (scans-out (f .scans)) false (kept no-marks f e .scans) .0)
+scans-inside f e = in-range (neither (scans-out (f .scans)) false (rules-hold no-marks f e .scans) .0)
 
 -- where the room is enough
 pub room-inside : (N settings room : ℕ) → when (write-short N settings room) refusal.Buffer ≡ none → (N ≤ settings) × (file-length N ≤ room)

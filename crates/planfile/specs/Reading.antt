@@ -1,35 +1,23 @@
 -- What the reader answers. Assumes nothing.
-use mathlib.Core.Bool.{Bool, false, not, _||_, cond}
+use mathlib.Core.Bool.{Bool, false, not, _||_}
 use mathlib.Core.Option.{Option, none, some}
 use mathlib.Core.List.{List, [], _∷_, _++_}
-use Prim.Native.Nat.{ℕ, zero, suc, _+_, _*_, _-_, _/_}
+use Prim.Native.Nat.{ℕ, zero, suc, _*_, _-_, _/_}
 use lib.Dec.{eqb, ltb}
 use lib.ListN.{length, getD, drop, replicate}
 use Rattle.tables.specs.declared.refusal.Refusal.{Refusal}
 use Rattle.tables.specs.declared.refusal.Refusal.the-variants as refusal
 use Rattle.tables.specs.Refusals.{Reply, refused, answered}
-use Rattle.tables.specs.Planning.{first-refusal}
-use Rattle.tables.specs.Room.{or-answer}
-use Rattle.planfile.specs.declared.fields.Fields.{Fields}
+use Rattle.checks.specs.Checks.{first-refusal, or-answer, first-from, when, or-else, found}
+use Rattle.rules.specs.declared.Fields.{Fields}
 use Rattle.planfile.specs.declared.read.ReadAnswer.{ReadAnswer}
 use Rattle.planfile.specs.declared.read.ReadAnswer.the-variants.{Read, Refused}
-use Rattle.planfile.specs.Bytes.{part, number-at, sum}
-use Rattle.planfile.specs.File.{letters, block-size, block-entries, entry-at}
-use Rattle.planfile.specs.declared.fields.Marks.{Marks}
-use Rattle.planfile.specs.Rules.{header-rules, entry-broken, first-from, found, when, or-else}
-
--- 11: "file length not 1,024 or 1,536"
-abbrev pub length-out : ℕ → Bool
-length-out n = not (eqb n 1024 || eqb n 1536)
-
--- 12: "a block's number or check is wrong"
-unfoldable pub block-broken : List ℕ → ℕ → Bool
-block-broken file k =
-    not (eqb (number-at (block-size * k) 4 file) k) || not (eqb (number-at (block-size * k + 508) 4 file) (sum (part (block-size * k) 508 file)))
-
--- "lowest such block", of 2 or 3
-unfoldable pub bad-block : List ℕ → Option ℕ
-bad-block file = first-from (block-broken file) 0 (length file / block-size)
+use Rattle.bytes.specs.Bytes.{part, number-at}
+use Rattle.blocks.specs.File.{letters, block-size, block-entries, entry-at, other-length}
+use Rattle.rules.specs.declared.Marks.{Marks}
+use Rattle.rules.specs.Rules.{header-rules}
+use Rattle.entries.specs.Entries.{entry-broken}
+use Rattle.blocks.specs.Blocks.{length-out, bad-block}
 
 -- the fields of block 0
 unfoldable pub fields-of : List ℕ → Fields
@@ -51,10 +39,6 @@ fields-of file = record {
 abbrev pub differ : List ℕ → List ℕ → Bool
 differ [] t = false
 differ (a ∷ s) t = not (eqb a (getD t 0 0)) || differ s (drop 1 t)
-
--- "N over 1,008 goes with length 1,536 and smaller N with 1,024; else refusal 13 at byte 8"
-abbrev pub other-length : ℕ → ℕ → Bool
-other-length n N = cond (ltb block-entries N) (not (eqb n 1536)) (not (eqb n 1024))
 
 unfoldable pub marks-of : List ℕ → Marks
 marks-of file = record {

@@ -8,14 +8,14 @@ use lib.ListN.{length, getD, drop}
 use Rattle.tables.specs.declared.refusal.Refusal.{Refusal}
 use Rattle.tables.specs.declared.refusal.Refusal.the-variants as refusal
 use Rattle.tables.specs.Refusals.{Reply, refused, answered}
-use Rattle.tables.specs.Planning.{first-refusal}
-use Rattle.tables.specs.Room.{or-answer}
-use Rattle.planfile.specs.declared.fields.Fields.{Fields}
+use Rattle.checks.specs.Checks.{first-refusal, or-answer, first-from, when, or-else, found}
+use Rattle.rules.specs.declared.Fields.{Fields}
 use Rattle.planfile.specs.declared.write.WriteAnswer.{WriteAnswer}
 use Rattle.planfile.specs.declared.write.WriteAnswer.the-variants.{Written, Refused}
-use Rattle.planfile.specs.File.{file-of, file-length}
-use Rattle.planfile.specs.declared.fields.Marks.{Marks}
-use Rattle.planfile.specs.Rules.{header-rules, entry-broken, first-from, found, when, or-else}
+use Rattle.blocks.specs.File.{file-of, file-length}
+use Rattle.rules.specs.declared.Marks.{Marks}
+use Rattle.rules.specs.Rules.{header-rules}
+use Rattle.entries.specs.Entries.{entry-broken}
 
 -- what is written has its letters, its zeros and its length
 abbrev pub no-marks : Marks

@@ -1,21 +1,21 @@
 // Block 0 as it is read: its fields and its marks.
-use crate::bytes::eight;
-use crate::bytes::four;
-use crate::bytes::one;
-use crate::bytes::two;
-use crate::fields::Fields;
-use crate::fields::Marks;
-use crate::rules::rules;
-use crate::stage::Stage;
-use weights::cost::Dist;
-use weights::cost::Rate;
+use bytes::numbers::eight;
+use bytes::numbers::four;
+use bytes::numbers::one;
+use bytes::numbers::two;
+use checks::stage::Stage;
+use keys::cost::Dist;
+use keys::cost::Rate;
+use rules::Fields;
+use rules::Marks;
+use rules::rules;
 ghost use mathlib.Core.Path.{_≡_};
 ghost use Prim.Native.Nat.{_+_, _≤_};
 ghost use lib.ListN.{length, replicate};
-ghost use Rattle.planfile.specs.Bytes.{part, «number-at»};
-ghost use Rattle.planfile.specs.File.{letters};
-ghost use Rattle.planfile.specs.Reading.{differ, «other-length», «fields-of», «marks-of», «broken-field»};
-ghost use Rattle.planfile.specs.Stages.{ended};
+ghost use Rattle.bytes.specs.Bytes.{part, «number-at»};
+ghost use Rattle.blocks.specs.File.{letters, «other-length»};
+ghost use Rattle.planfile.specs.Reading.{differ, «fields-of», «marks-of», «broken-field»};
+ghost use Rattle.checks.specs.Stages.{ended};
 
 pub fn fields(file: &[u8]) -> Fields
     requires { ⌜ 512 ≤ length (now file) ⌝ }

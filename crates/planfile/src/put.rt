@@ -1,18 +1,19 @@
 // A plan file as it is written: block 0, then the data blocks.
-use crate::bytes::put_eight;
-use crate::bytes::put_four;
-use crate::bytes::put_one;
-use crate::bytes::put_two;
-use crate::bytes::put_zeros;
-use crate::bytes::sum_of;
-use crate::fields::Fields;
-use crate::packed::put;
+use blocks::packed::put;
+use blocks::sound::sum_of;
+use bytes::numbers::put_eight;
+use bytes::numbers::put_four;
+use bytes::numbers::put_one;
+use bytes::numbers::put_two;
+use bytes::numbers::put_zeros;
+use rules::Fields;
 ghost use mathlib.Core.Path.{_≡_};
 ghost use Prim.Native.Nat.{ℕ, suc, _+_, _*_, _≤_, _<_};
 ghost use lib.ListN.{length, getD};
 ghost use lib.Seq.{sets};
-ghost use Rattle.planfile.specs.Bytes.{le, sum, part};
-ghost use Rattle.planfile.specs.File.{letters, sealed, header, pairs, «entry-of», «data-block»};
+ghost use Rattle.bytes.specs.Bytes.{le, part};
+ghost use Rattle.blocks.specs.Sum.{sum};
+ghost use Rattle.blocks.specs.File.{letters, sealed, header, pairs, «entry-of», «data-block»};
 
 // The four letters, from a fixed byte string.
 fn put_letters(file: &mut [u8])

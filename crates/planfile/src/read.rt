@@ -1,20 +1,20 @@
 // The reader: its stages in order, and then the settings.
-use crate::blocks::blocks;
-use crate::blocks::size;
-use crate::entries::check_file;
-use crate::fields::Fields;
 use crate::header::fields;
 use crate::header::header;
-use crate::packed::get;
-use crate::stage::Stage;
-use crate::stage::unless;
-use crate::stage::why;
+use blocks::packed::get;
+use blocks::sound::blocks;
+use blocks::sound::size;
+use checks::stage::Stage;
+use checks::stage::unless;
+use checks::stage::why;
+use entries::check_file;
+use rules::Fields;
 use tables::refusal::Refusal;
 ghost use mathlib.Core.Path.{_≡_};
 ghost use Prim.Native.Nat.{ℕ, _+_, _*_, _/_, _≤_, _<_};
 ghost use lib.ListN.{length};
 ghost use lib.Seq.{sets};
-ghost use Rattle.planfile.specs.File.{«entry-at»};
+ghost use Rattle.blocks.specs.File.{«entry-at»};
 ghost use Rattle.planfile.specs.Reading.{entries, «read-of», «read-reply», «read-refusal», «settings-after»};
 
 pub enum ReadAnswer {

@@ -1,19 +1,19 @@
 // The writer: the rules in order, and then the bytes.
-use crate::entries::check_settings;
-use crate::fields::Fields;
-use crate::fields::Marks;
 use crate::put::put_data;
 use crate::put::put_header;
-use crate::rules::rules;
-use crate::stage::Stage;
-use crate::stage::unless;
-use crate::stage::why;
+use checks::stage::Stage;
+use checks::stage::unless;
+use checks::stage::why;
+use entries::check_settings;
+use rules::Fields;
+use rules::Marks;
+use rules::rules;
 use tables::refusal::Refusal;
 ghost use mathlib.Core.Path.{_≡_};
 ghost use Prim.Native.Nat.{ℕ, _≤_, _<_};
 ghost use lib.ListN.{length, getD};
 ghost use lib.Seq.{sets};
-ghost use Rattle.planfile.specs.File.{«data-blocks», «file-length», «file-of»};
+ghost use Rattle.blocks.specs.File.{«data-blocks», «file-length», «file-of»};
 ghost use Rattle.planfile.specs.Writing.{«write-short», «write-of», «write-reply», «write-refusal», «file-after»};
 
 pub enum WriteAnswer {

@@ -11,21 +11,24 @@ use Rattle.criteria.specs.Choice.{Problem, InBudget, NoneAllowed, NoneWithin}
 use Rattle.tables.specs.declared.refusal.Refusal.{Refusal}
 use Rattle.tables.specs.declared.refusal.Refusal.the-variants as refusal
 use Rattle.tables.specs.Refusals.{Reply, refused, answered}
-use Rattle.tables.specs.Planning.{Asked, Sound, problem-of, multiplier-out, zero-or-over}
+use Rattle.checks.specs.Planning.{Asked, Sound, problem-of, multiplier-out}
+use Rattle.checks.specs.Checks.{zero-or-over}
 use Rattle.tables.specs.Limits.{most-term}
-use Rattle.tables.proofs.Tests.{in-range, neither}
-use Rattle.trellis.specs.declared.walk.Totals.{Totals}
+use Rattle.checks.proofs.RangeLaws.{in-range}
+use Rattle.laws.proofs.Tests.{neither}
+use Rattle.walk.specs.declared.Totals.{Totals}
 use Rattle.trellis.specs.Chosen.{chosen}
-use Rattle.trellis.specs.Walked.{TotalsOf}
-use Rattle.planner.specs.Promise.{Promise, unsound, no-sequence, none-within, planned, totals, values-of}
-use Rattle.planner.specs.Checked.{CheckedAs}
-use Rattle.planner.specs.declared.check.Checked.{Checked}
-use Rattle.planner.specs.declared.check.Checked.the-variants as checked
-use Rattle.planner.specs.Search.{Framed, Finished, ThriftyTotals, Given}
-use Rattle.planner.specs.Started.{StartedAs, fits, none-allowed, none-fits}
-use Rattle.planner.specs.declared.seek.Started.{Started}
-use Rattle.planner.specs.declared.seek.Started.the-variants as started
-use Rattle.planner.proofs.SeekLaws.{wiped-same}
+use Rattle.walk.specs.Walked.{TotalsOf}
+use Rattle.promise.specs.Promise.{Promise, unsound, no-sequence, none-within, planned, totals, values-of}
+use Rattle.checks.specs.Checked.{CheckedAs}
+use Rattle.checks.specs.declared.check.Checked.{Checked}
+use Rattle.checks.specs.declared.check.Checked.the-variants as checked
+use Rattle.seek.specs.Passes.{Framed, Finished, ThriftyTotals}
+use Rattle.planner.specs.Given.{Given}
+use Rattle.seek.specs.Started.{StartedAs, fits, none-allowed, none-fits}
+use Rattle.seek.specs.declared.start.Started.{Started}
+use Rattle.seek.specs.declared.start.Started.the-variants as started
+use Rattle.seek.proofs.SeekLaws.{wiped-same}
 
 -- the values of an answer are the sequence's totals
 pub values-are : {P : Problem} {s : List ℕ} {t : Totals} → TotalsOf P s t → values-of t ≡ totals P s

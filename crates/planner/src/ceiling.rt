@@ -1,17 +1,17 @@
 // Ceiling X: among allowed sequences with peak at most X, least rate, then least distortion, then first.
-use crate::answer::PlanAnswer;
-use crate::check::Checked;
-use crate::check::check;
-use crate::finish::finish;
-use crate::seek::NO_CEILING;
-use crate::seek::thrifty_pass;
+use checks::check::Checked;
+use checks::check::check;
+use promise::PlanAnswer;
+use seek::finish::finish;
+use seek::passes::NO_CEILING;
+use seek::passes::thrifty_pass;
 use tables::refusal::Refusal;
-use trellis::walk::wipe;
+use walk::wipe;
 ghost use mathlib.Core.Bool.{false};
 ghost use lib.ListN.{length};
-ghost use Rattle.tables.specs.Planning.{Sound};
-ghost use Rattle.planner.specs.Checked.{asking};
-ghost use Rattle.planner.specs.Promise.{CeilingPromise};
+ghost use Rattle.checks.specs.Planning.{Sound};
+ghost use Rattle.checks.specs.Checked.{asking};
+ghost use Rattle.promise.specs.Promise.{CeilingPromise};
 
 // Where the checks have passed.
 fn ceiling_of(

@@ -1,82 +1,25 @@
 // Minmax, budget B: the least X for which some allowed sequence has peak at most X and rate at most B; then the ceiling plan for that X.
-use crate::answer::MinmaxAnswer;
-use crate::answer::MinmaxPlan;
-use crate::check::Checked;
-use crate::check::check;
-use crate::finish::finish;
-use crate::seek::Started;
-use crate::seek::start;
-use crate::seek::thrifty_pass;
-use trellis::walk::Totals;
-use trellis::walk::total_up;
+use checks::check::Checked;
+use checks::check::check;
+use promise::MinmaxAnswer;
+use promise::MinmaxPlan;
+use search::halving::least_ceiling;
+use seek::finish::finish;
+use seek::passes::thrifty_pass;
+use seek::start::Started;
+use seek::start::start;
+use walk::Totals;
 ghost use mathlib.Core.Path.{_≡_};
 ghost use mathlib.Core.Bool.{false};
 ghost use Prim.Native.Nat.{_≤_, _<_};
 ghost use lib.ListN.{length};
-ghost use Rattle.tables.specs.Planning.{Sound};
+ghost use Rattle.checks.specs.Planning.{Sound};
 ghost use Rattle.tables.specs.Tables.{table, planning};
-ghost use Rattle.trellis.specs.Pass.{Fit};
-ghost use Rattle.planner.specs.Checked.{asking};
-ghost use Rattle.planner.specs.Search.{Fits, SomeFits, LeastCeiling, ThriftyTotals, Given};
-ghost use Rattle.planner.specs.Promise.{MinmaxPromise, IsMinmaxPlan, «minmax-reply»};
-
-// Does the least-rate plan under the ceiling fit the budget?
-fn some_fit(
-    scans: usize,
-    settings: usize,
-    law: u64,
-    ceiling: u32,
-    budget: u64,
-    rates: &[u32],
-    distortions: &[u32],
-    scratch: &mut [u8],
-) -> bool
-    requires { ⌜ Fit scans settings law (now rates) (now distortions) (length (now scratch)) ⌝ }
-    ensures { λ r. ⌜ Fits (planning (table scans settings law (now (rates .entry)) (now (distortions .entry)))) scans settings ceiling budget (now (scratch .entry)) (now (scratch .exit)) r ⌝ }
-{
-    if thrifty_pass(scans, settings, law, ceiling, rates, distortions, scratch) {
-        let totals = total_up(scans, settings, law, rates, distortions, scratch);
-        return totals.rate.0 <= budget;
-    }
-    false
-}
-
-// The least ceiling under which something fits the budget, by halving what is left between 0 and `high`, under which something does.
-fn least_ceiling(
-    scans: usize,
-    settings: usize,
-    law: u64,
-    budget: u64,
-    high: u32,
-    rates: &[u32],
-    distortions: &[u32],
-    scratch: &mut [u8],
-) -> u32
-    requires { ⌜ Fit scans settings law (now rates) (now distortions) (length (now scratch)) ⌝ }
-    requires { ⌜ SomeFits (planning (table scans settings law (now rates) (now distortions))) budget high ⌝ }
-    ensures { λ r. ⌜ LeastCeiling (planning (table scans settings law (now (rates .entry)) (now (distortions .entry)))) scans settings budget r (now (scratch .entry)) (now (scratch .exit)) ⌝ }
-{
-    let mut low: u32 = 0;
-    let mut least = high;
-    while low < least {
-        let middle = low + (least - low) / 2;
-        if some_fit(
-            scans,
-            settings,
-            law,
-            middle,
-            budget,
-            rates,
-            distortions,
-            scratch,
-        ) {
-            least = middle;
-        } else {
-            low = middle + 1;
-        }
-    }
-    least
-}
+ghost use Rattle.checks.specs.Fit.{Fit};
+ghost use Rattle.checks.specs.Checked.{asking};
+ghost use Rattle.seek.specs.Passes.{ThriftyTotals};
+ghost use Rattle.planner.specs.Given.{Given};
+ghost use Rattle.promise.specs.Promise.{MinmaxPromise, IsMinmaxPlan, «minmax-reply»};
 
 fn wide(x: u32) -> u64
     ensures { λ r. ⌜ r ≡ x ⌝ }

@@ -1,16 +1,16 @@
 // Multiplier n/d: among all allowed sequences, least d × distortion + n × rate, then least rate, then first.
-use crate::answer::PlanAnswer;
-use crate::check::Checked;
-use crate::check::check;
-use crate::check::multiplier_outside;
-use crate::finish::finish;
-use crate::seek::multiplier_pass;
+use checks::check::Checked;
+use checks::check::check;
+use checks::range::multiplier_outside;
+use promise::PlanAnswer;
+use seek::finish::finish;
+use seek::passes::multiplier_pass;
 use tables::refusal::Refusal;
-use trellis::walk::wipe;
+use walk::wipe;
 ghost use lib.ListN.{length};
-ghost use Rattle.tables.specs.Planning.{Sound, «multiplier-out»};
-ghost use Rattle.planner.specs.Checked.{asking};
-ghost use Rattle.planner.specs.Promise.{MultiplierPromise};
+ghost use Rattle.checks.specs.Planning.{Sound, «multiplier-out»};
+ghost use Rattle.checks.specs.Checked.{asking};
+ghost use Rattle.promise.specs.Promise.{MultiplierPromise};
 
 // Where the checks have passed.
 fn multiplier_of(

@@ -10,8 +10,6 @@ use borrow.Author.Tests.{lt-ltb, le-ltb}
 use Rattle.io.specs.Digits.{digits, glyph, Fewest}
 use Rattle.printing.specs.Lines.{decimal, decimal-in}
 
--- ---- the digits
-
 -- the sign of a digit
 glyph-digit : (d : ℕ) → d < 10 → glyph d ≡ 48 + d
 glyph-digit d h = rw (lt-ltb d 10 h) refl
@@ -46,8 +44,6 @@ digits-in (suc m) (suc (suc j)) x h f =
 pub digits-decimal : (k x : ℕ) → x < 2 ^ 64 → Fewest 10 1 x k → digits 10 k x ≡ decimal x
 unfolding decimal
 digits-decimal k x h f = digits-in 19 k x (omega arith) f
-
--- ---- its length
 
 -- no more digits than there is room for
 length-in : (m x : ℕ) → length (decimal-in m x) ≤ m

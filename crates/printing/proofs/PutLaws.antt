@@ -1,19 +1,12 @@
 -- Text after text in a lent buffer. Assumes nothing.
-use mathlib.Core.Path.{_≡_, sym, ap, _∙_}
-use mathlib.Core.List.{List, [], _∷_, _++_}
-use Prim.Native.Nat.{ℕ, _+_, _≤_, _<_}
+use mathlib.Core.Path.{_≡_, ap, _∙_}
+use mathlib.Core.List.{List, _++_}
+use Prim.Native.Nat.{ℕ, _+_, _≤_}
 use native.Mathlib.Omega.{arith}
-use native.Mathlib.Numerals.{add-one}
-use lib.ListN.{length, getD, take, set, length-append}
-use lib.Seq.{sets, take-suc, length-take-le}
-use Rattle.tables.proofs.Stores.{sets-append}
+use lib.ListN.{length, length-append}
+use lib.Seq.{sets}
+use Rattle.laws.proofs.Stores.{sets-append}
 use Rattle.printing.specs.Parts.{Put}
-
--- one byte more of a text that is copied
-pub copied-more : (d s : List ℕ) (at i : ℕ) → i < length s → set (sets d at (take i s)) (at + i) (getD s i 0) ≡ sets d at (take (i + 1) s)
-copied-more d s at i h =
-    sets-append d (take i s) (getD s i 0 ∷ []) at (at + i) (ap (λ (n : ℕ). at + n) (sym (length-take-le i s (omega arith))))
-    ∙ ap (sets d at) (sym (take-suc s i 0 h) ∙ ap (λ (n : ℕ). take n s) (sym (add-one i)))
 
 -- what `put` ensures
 pub put-so : {d o : List ℕ} {at r : ℕ} (t : List ℕ) → (r ≡ at + length t) × (o ≡ sets d at t) → Put d at t o r

@@ -12,17 +12,15 @@ use borrow.Author.Tests.{eq-eqb, ne-eqb}
 use Rattle.tables.specs.declared.refusal.Refusal.{Refusal}
 use Rattle.tables.specs.Refusals.{numberOf, carriedBy, refused as refused-reply}
 use Rattle.tables.proofs.RefusalLaws.{never-zero}
-use Rattle.planner.specs.Promise.{average-reply, minmax-reply}
-use Rattle.planner.specs.declared.answer.AveragePlan.{AveragePlan}
-use Rattle.planner.specs.declared.answer.MinmaxPlan.{MinmaxPlan}
-use Rattle.planner.specs.declared.answer.AverageAnswer.{AverageAnswer}
-use Rattle.planner.specs.declared.answer.MinmaxAnswer.{MinmaxAnswer}
-use Rattle.planner.specs.declared.answer.AverageAnswer.the-variants as average-answer
-use Rattle.planner.specs.declared.answer.MinmaxAnswer.the-variants as minmax-answer
+use Rattle.promise.specs.Promise.{average-reply, minmax-reply}
+use Rattle.promise.specs.declared.AveragePlan.{AveragePlan}
+use Rattle.promise.specs.declared.MinmaxPlan.{MinmaxPlan}
+use Rattle.promise.specs.declared.AverageAnswer.{AverageAnswer}
+use Rattle.promise.specs.declared.MinmaxAnswer.{MinmaxAnswer}
+use Rattle.promise.specs.declared.AverageAnswer.the-variants as average-answer
+use Rattle.promise.specs.declared.MinmaxAnswer.the-variants as minmax-answer
 use Rattle.printing.specs.Lines.{decimal, spaced, named, numbered, refused, at, refusal-text, ave-text, minmax-text}
 use Rattle.printing.specs.Parts.{after-word, average-values, minmax-values}
-
--- ---- settings
 
 numbered-snoc : (l : List ℕ) (x : ℕ) → numbered l ++ spaced (decimal x) ≡ numbered (l ++ (x ∷ []))
 numbered-snoc [] x = sym (append-nil (spaced (decimal x)))
@@ -35,8 +33,6 @@ pub numbered-more : (s : List ℕ) (i : ℕ) → i < length s → numbered (take
 numbered-more s i h =
     numbered-snoc (take i s) (getD s i 0)
     ∙ ap numbered (sym (take-suc s i 0 h) ∙ ap (λ (n : ℕ). take n s) (sym (add-one i)))
-
--- ---- a refusal
 
 -- its number is never that of an answer
 refused-number : (r : Refusal) → eqb (numberOf r) 0 ≡ false
@@ -58,8 +54,6 @@ refusal-cell n m k j e f h =
 pub refusal-plain : (n m j : ℕ) → n ≡ m → n ≢ 7 → named refused n ≡ refusal-text m j
 refusal-plain n m j e h =
     ap (named refused) e ∙ sym (append-nil (named refused m)) ∙ rw (ne-eqb m 7 (λ z. h (e ∙ z))) refl
-
--- ---- an answer
 
 -- what stands behind the first word of the first line
 pub average-planned : {a : AverageAnswer} {p : AveragePlan} (s : List ℕ) → a ≡ average-answer.Planned p

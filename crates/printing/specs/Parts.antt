@@ -6,11 +6,11 @@ use Prim.Native.Nat.{ℕ, _+_}
 use lib.Dec.{eqb}
 use lib.ListN.{length, getD}
 use lib.Seq.{sets}
-use Rattle.planner.specs.Promise.{average-reply, minmax-reply}
-use Rattle.planner.specs.declared.answer.AveragePlan.{AveragePlan}
-use Rattle.planner.specs.declared.answer.MinmaxPlan.{MinmaxPlan}
-use Rattle.planner.specs.declared.answer.AverageAnswer.the-variants as average-answer
-use Rattle.planner.specs.declared.answer.MinmaxAnswer.the-variants as minmax-answer
+use Rattle.promise.specs.Promise.{average-reply, minmax-reply}
+use Rattle.promise.specs.declared.AveragePlan.{AveragePlan}
+use Rattle.promise.specs.declared.MinmaxPlan.{MinmaxPlan}
+use Rattle.promise.specs.declared.AverageAnswer.the-variants as average-answer
+use Rattle.promise.specs.declared.MinmaxAnswer.the-variants as minmax-answer
 use Rattle.tables.specs.Refusals.{Reply}
 use Rattle.printing.specs.Lines.{decimal, spaced, named, rate, dist, refusal-text}
 

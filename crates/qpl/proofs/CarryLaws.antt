@@ -13,39 +13,42 @@ use Rattle.tables.specs.declared.refusal.Refusal.the-variants as refusal
 use Rattle.tables.specs.Refusals.{Reply, refused, answered, numberOf, carriedBy}
 use Rattle.tables.specs.Limits.{most-scans, most-settings}
 use Rattle.tables.specs.Tables.{cells}
-use Rattle.tables.specs.Planning.{Asked, Check, or-later, first-refusal, planning-checks, early-refusal, Unsound, early, illegal}
-use Rattle.tables.specs.Room.{room-checks, room-of, or-answer}
-use Rattle.tables.proofs.Tests.{in-range, neither}
+use Rattle.checks.specs.Planning.{Asked, planning-checks, early-refusal, Unsound, early, illegal}
+use Rattle.checks.specs.Checks.{Check, or-later, first-refusal, or-answer, first-from, when, or-else, found}
+use Rattle.room.specs.Room.{room-checks, room-of}
+use Rattle.checks.proofs.RangeLaws.{in-range}
+use Rattle.laws.proofs.Tests.{neither}
 use Rattle.tables.proofs.CellLaws.{cells-small}
 use Rattle.tables.proofs.RefusalLaws.{never-zero}
-use Rattle.planfile.specs.declared.fields.Fields.{Fields}
-use Rattle.planfile.specs.declared.fields.Marks.{Marks}
-use Rattle.planfile.specs.File.{entry-at, file-length}
-use Rattle.planfile.specs.Rules.{header-rules, entry-broken, first-from, found, when, or-else}
-use Rattle.planfile.specs.Reading.{length-out, block-broken, bad-block, bad-entry, broken-field, fields-of, marks-of, read-refusal, read-of, values-of}
+use Rattle.rules.specs.declared.Fields.{Fields}
+use Rattle.rules.specs.declared.Marks.{Marks}
+use Rattle.blocks.specs.File.{entry-at, file-length}
+use Rattle.rules.specs.Rules.{header-rules}
+use Rattle.entries.specs.Entries.{entry-broken}
+use Rattle.blocks.specs.Blocks.{length-out, block-broken, bad-block}
+use Rattle.planfile.specs.Reading.{bad-entry, broken-field, fields-of, marks-of, read-refusal, read-of, values-of}
 use Rattle.planfile.specs.Writing.{no-marks, write-short, write-refusal, write-of}
-use Rattle.planfile.proofs.CheckLaws.{all-pass, none-when}
+use Rattle.checks.proofs.CheckLaws.{all-pass, none-when}
 use Rattle.planfile.proofs.ReadLaws.{two-lengths}
 use Rattle.planfile.proofs.WriteLaws.{scans-inside}
 use Rattle.planfile.proofs.Accepted.{passed}
-use Rattle.planner.specs.declared.answer.PlanAnswer.{PlanAnswer}
-use Rattle.planner.specs.declared.answer.PlanAnswer.the-variants as plan-answer
-use Rattle.planner.specs.declared.answer.MinmaxAnswer.{MinmaxAnswer}
-use Rattle.planner.specs.declared.answer.MinmaxAnswer.the-variants as minmax-answer
-use Rattle.planner.specs.declared.answer.AverageAnswer.{AverageAnswer}
-use Rattle.planner.specs.declared.answer.AverageAnswer.the-variants as average-answer
-use Rattle.planner.specs.Promise.{Promise, unsound, no-sequence, none-within, planned, plan-reply, minmax-reply, average-reply}
-use Rattle.planner.proofs.CheckLaws.{sound-fit, sound-plan}
-use Rattle.qpl.specs.Surface.{lent, room-told}
-use Rattle.qpl.specs.Parts.{Tellable}
-use Rattle.qpl.proofs.AnswerLaws.{tellable-refusal}
+use Rattle.promise.specs.declared.PlanAnswer.{PlanAnswer}
+use Rattle.promise.specs.declared.PlanAnswer.the-variants as plan-answer
+use Rattle.promise.specs.declared.MinmaxAnswer.{MinmaxAnswer}
+use Rattle.promise.specs.declared.MinmaxAnswer.the-variants as minmax-answer
+use Rattle.promise.specs.declared.AverageAnswer.{AverageAnswer}
+use Rattle.promise.specs.declared.AverageAnswer.the-variants as average-answer
+use Rattle.promise.specs.Promise.{Promise, unsound, no-sequence, none-within, planned, plan-reply, minmax-reply, average-reply}
+use Rattle.checks.proofs.PlanningLaws.{sound-fit, sound-plan}
+use Rattle.telling.specs.Told.{lent}
+use Rattle.qpl.specs.Surface.{room-told}
+use Rattle.telling.specs.Parts.{Tellable}
+use Rattle.telling.proofs.AnswerLaws.{tellable-refusal}
 
 -- what is refused, if anything is, carries less than 2 ^ 32
 abbrev pub Light : Option Refusal → Type 0
 Light none = Unit {0}
 Light (some r) = carriedBy r < 2 ^ 32
-
--- ---- one test, one after the other, a list of them
 
 light-when : (t : Bool) (r : Refusal) → carriedBy r < 2 ^ 32 → Light (when t r)
 light-when true r h = h
@@ -84,8 +87,6 @@ light-found (suc n) r bad j h = of (bad j) (h j (omega arith)) (light-found n r 
         Light (found r (cond t (some j) (first-from bad (suc j) n)))
     of true a b = a
     of false a b = b
-
--- ---- the refusals of each call
 
 pub room-light : (C N Q : ℕ) → Light (first-refusal (room-checks C N Q))
 room-light C N Q = light-first (room-checks C N Q) refl
@@ -129,8 +130,6 @@ unsound-light {fourth} {a} (illegal e l) =
     let q = in-range {most = most-settings} {x = a .Q} (p .1 .0) in
     let w : length (a .rates) ≡ cells (a .N) (a .Q) = eqb-true _ _ (not-false _ (neither _ _ (p .1 .1 .1 .1 .0) .0)) in
     omega (arith, l .inside, w, cells-small {N = a .N} {Q = a .Q} (n .1) (q .1))
-
--- ---- what can be told
 
 refusal-tellable : {reply : Reply} {n : ℕ} (r : Refusal) → reply ≡ refused r → carriedBy r < 2 ^ 32 → Tellable reply n
 refusal-tellable r e h = rw e (record { holds = λ z. absurd (never-zero r z); small = λ z. h })
@@ -182,8 +181,6 @@ minmax-needs (minmax-answer.Refused r) e = absurd (never-zero r e)
 pub average-needs : (r : AverageAnswer) → average-reply r .number ≡ 0 → 8 * length (average-reply r .values) ≤ 48
 average-needs (average-answer.Planned m) e = omega arith
 average-needs (average-answer.Refused r) e = absurd (never-zero r e)
-
--- ---- the room question and the writer
 
 pub room-carries : (C N Q : ℕ) (r : Refusal) → room-of C N Q ≡ refused r → carriedBy r < 2 ^ 32
 unfolding room-of

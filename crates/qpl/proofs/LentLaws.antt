@@ -9,11 +9,11 @@ use lib.Seq.{drop-append-le}
 use Rattle.tables.specs.declared.refusal.Refusal.{Refusal}
 use Rattle.tables.specs.Refusals.{Reply}
 use Rattle.planfile.specs.Reading.{entries, fields-of, read-refusal, settings-after}
-use Rattle.planfile.specs.File.{entry-at}
+use Rattle.blocks.specs.File.{entry-at}
 use Rattle.planfile.proofs.Accepted.{passed}
-use Rattle.planner.specs.Promise.{Promise, unsound, no-sequence, none-within, planned}
-use Rattle.planner.specs.Checked.{asking}
-use Rattle.planner.proofs.CheckLaws.{sound-plan}
+use Rattle.promise.specs.Promise.{Promise, unsound, no-sequence, none-within, planned}
+use Rattle.checks.specs.Checked.{asking}
+use Rattle.checks.proofs.PlanningLaws.{sound-plan}
 
 -- a buffer whose front stays the same stays the same
 same-front : (room : ℕ) (l : List ℕ) {p : List ℕ} → p ≡ take room l → p ++ drop room l ≡ l

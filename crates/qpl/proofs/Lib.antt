@@ -1,5 +1,4 @@
 -- The laws of the surface.
-pub mod AnswerLaws
 pub mod CarryLaws
 pub mod LentLaws
 pub mod Settled

@@ -13,19 +13,21 @@ use Rattle.tables.specs.declared.refusal.Refusal.{Refusal}
 use Rattle.tables.specs.declared.refusal.Refusal.the-variants as refusal
 use Rattle.tables.specs.Limits.{most-scans}
 use Rattle.tables.specs.Refusals.{Reply, refused, numberOf, carriedBy}
-use Rattle.tables.specs.Planning.{Asked, or-later, early-refusal, scans-out, settings-out, law-out, lengths-out, buffers-short}
-use Rattle.tables.proofs.Tests.{in-range, never, neither}
+use Rattle.checks.specs.Planning.{Asked, early-refusal, scans-out, settings-out, lengths-out, buffers-short}
+use Rattle.checks.specs.Checks.{or-later, when, or-else, found}
+use Rattle.tables.specs.Law.{law-out}
+use Rattle.checks.proofs.RangeLaws.{in-range}
+use Rattle.laws.proofs.Tests.{never, neither}
 use Rattle.tables.proofs.RefusalLaws.{never-zero, refusal-of, refusal-back}
-use Rattle.planfile.specs.Rules.{found, when, or-else}
-use Rattle.planfile.specs.Reading.{length-out, bad-block, broken-field, fields-of, marks-of, read-refusal}
-use Rattle.planfile.proofs.FieldLaws.{kept}
-use Rattle.planner.specs.Checked.{asking}
-use Rattle.planner.specs.Promise.{CeilingPromise, MultiplierPromise, MinmaxPromise, AveragePromise, plan-reply, minmax-reply, average-reply}
-use Rattle.planner.proofs.Settled.{ceiling-settled, multiplier-settled, minmax-settled, average-settled}
-use Rattle.qpl.specs.Surface.{word-of, Told, Tells, lent}
-use Rattle.qpl.proofs.AnswerLaws.{number-small, word-refused}
-
--- ---- one word and one content of every buffer
+use Rattle.blocks.specs.Blocks.{length-out, bad-block}
+use Rattle.planfile.specs.Reading.{broken-field, fields-of, marks-of, read-refusal}
+use Rattle.rules.proofs.FieldLaws.{rules-hold}
+use Rattle.checks.specs.Checked.{asking}
+use Rattle.promise.specs.Promise.{CeilingPromise, MultiplierPromise, MinmaxPromise, AveragePromise, plan-reply, minmax-reply, average-reply}
+use Rattle.promise.proofs.Settled.{ceiling-settled, multiplier-settled, minmax-settled, average-settled}
+use Rattle.telling.specs.Told.{word-of, Told, lent}
+use Rattle.qpl.specs.Surface.{Tells}
+use Rattle.telling.proofs.AnswerLaws.{number-small, word-refused}
 
 -- what is told of equal replies is the same
 told-once : {reply reply′ : Reply} (answer : List ℕ) {word word′ : ℕ} {t t′ : List ℕ} → reply ≡ reply′ → Told reply answer word t →
@@ -75,8 +77,6 @@ module _ (N Q law : ℕ) (rates distortions plan scratch answer : List ℕ) {wor
       AllSame word word′ t t′ p p′ s s′
   average-tells-once B = tells-once average-reply answer (λ r r′. average-settled {B = B} r r′)
 
--- ---- an answer buffer that is too short
-
 -- what follows a stage matters only where it passes
 after-stage : (o x y : Option Refusal) → (o ≡ none → x ≡ y) → or-else o x ≡ or-else o y
 after-stage none x y h = h refl
@@ -93,7 +93,7 @@ short-answer-read file answer room short = rw short
     (ap (or-else (when (length-out (length file)) refusal.FileLength))
     (ap (or-else (found refusal.Block (bad-block file)))
     (after-stage (broken-field file) _ (some refusal.Buffer) (λ e.
-    let n = in-range {most = most-scans} {x = fields-of file .scans} (neither _ _ (kept (marks-of file) (fields-of file) e .scans) .0) in
+    let n = in-range {most = most-scans} {x = fields-of file .scans} (neither _ _ (rules-hold (marks-of file) (fields-of file) e .scans) .0) in
     rw (lt-ltb 0 (fields-of file .scans) (omega (arith, n .0))) refl))))
 
 -- A planning call then gives the first of 1 to 5, and else 6.
@@ -138,8 +138,6 @@ short-answer-refused fourth N Q law rates distortions need answer room scratch s
     five false false false true b₅ e = never (cc)
     five false false false false true e = never (cc)
     five false false false false false e = never (cc)
-
--- ---- a word is one refusal
 
 -- Equal words are of equal refusals.
 pub word-settles : (r r′ : Refusal) → word-of (refused r) ≡ word-of (refused r′) → r ≡ r′

@@ -1,16 +1,8 @@
 // The C surface (include/qpl.h): the room question, the reader and the writer of plan files, and the four planning calls. Each function is
 // one call of the layer below. It gives back 0, or a refusal's number with what it carries in the high 32 bits; what it answers goes to a
 // lent buffer.
-mod tell;
-
-use crate::tell::lent;
-use crate::tell::put_room;
-use crate::tell::tell_average;
-use crate::tell::tell_fields;
-use crate::tell::tell_minmax;
-use crate::tell::tell_plan;
-use crate::tell::word;
-use planfile::fields::Fields;
+use keys::cost::Dist;
+use keys::cost::Rate;
 use planfile::read::read_plan;
 use planfile::write::WriteAnswer;
 use planfile::write::write_plan;
@@ -18,18 +10,25 @@ use planner::average::average_plan;
 use planner::ceiling::ceiling_plan;
 use planner::minmax::minmax_plan;
 use planner::multiplier::multiplier_plan;
+use room::RoomAnswer;
+use room::room_for;
+use rules::Fields;
 use tables::refusal::Refusal;
-use tables::room::RoomAnswer;
-use tables::room::room_for;
-use weights::cost::Dist;
-use weights::cost::Rate;
+use telling::lent;
+use telling::put_room;
+use telling::tell_average;
+use telling::tell_fields;
+use telling::tell_minmax;
+use telling::tell_plan;
+use telling::word;
 ghost use mathlib.Core.Path.{_≡_};
 ghost use lib.ListN.{length};
-ghost use Rattle.planner.specs.Checked.{asking};
-ghost use Rattle.planner.specs.Promise.{CeilingPromise, MultiplierPromise, MinmaxPromise, AveragePromise, «plan-reply», «minmax-reply», «average-reply»};
+ghost use Rattle.checks.specs.Checked.{asking};
+ghost use Rattle.promise.specs.Promise.{CeilingPromise, MultiplierPromise, MinmaxPromise, AveragePromise, «plan-reply», «minmax-reply», «average-reply»};
 ghost use Rattle.planfile.specs.Reading.{«read-of», «read-refusal», «settings-after»};
 ghost use Rattle.planfile.specs.Writing.{«write-of», «write-refusal», «file-after»};
-ghost use Rattle.qpl.specs.Surface.{Told, Tells, «word-of», «room-told», lent as Lent, «fields-told»};
+ghost use Rattle.telling.specs.Told.{Told, «word-of», lent as Lent};
+ghost use Rattle.qpl.specs.Surface.{Tells, «room-told», «fields-told»};
 
 // cells, bytes, scratch
 #[no_mangle]

@@ -17,8 +17,6 @@ use Rattle.reading.specs.declared.Word.the-variants.{Between, Digits, Ot
 use Rattle.reading.specs.declared.State.{State}
 use Rattle.reading.proofs.WordLaws.{held-between, held-other, held-value, held-over, held-one, closed-value}
 
--- ---- the numbers taken
-
 as-words-snoc : (l : List ℕ) (x : ℕ) → as-words (l ++ (x ∷ [])) ≡ as-words l ++ (some x ∷ [])
 as-words-snoc [] x = refl
 as-words-snoc (a ∷ l) x = ap (λ (t : List (Option ℕ)). some a ∷ t) (as-words-snoc l x)
@@ -30,8 +28,6 @@ taken-more numbers n x h =
     ap (λ (k : ℕ). as-words (take k (set numbers n x))) (add-one n)
     ∙ ap as-words (take-suc-set numbers n x h)
     ∙ as-words-snoc (take n numbers) x
-
--- ---- one more byte of a text
 
 -- the words of a text, when those of it with every rest are known: before, and those of the rest where w stands open
 Known : (text : List ℕ) (before : List (Option ℕ)) (w : Open) → Type 0
@@ -56,8 +52,6 @@ known-closed text before w c h k rest =
     more-text text rest c ∙ k (c ∷ rest)
     ∙ ap (λ (b : Bool). before ++ cond b (closed w ++ words-from between rest) (words-from (grown w c) rest)) h
     ∙ sym (append-assoc before (closed w) (words-from between rest))
-
--- ---- the laws
 
 -- nothing is read yet
 pub fed-none : (numbers : List ℕ) → Fed [] numbers (record { word = Between; taken = 0; more = false })
@@ -140,8 +134,6 @@ module _ {text numbers : List ℕ} {s : State} where
       let o = held-one v w (subst (λ (u : Word). Shows u w) b p) in
       refuses text numbers s c w (o .0) h t (inr (omega arith)) (o .1) k
   fed-full c v h b l m (stopped word e t p k) = absurd (true≢false (sym e ∙ m))
-
--- ---- a piece
 
 module _ {numbers : List ℕ} {s : State} where
   -- one more byte of the piece

@@ -12,8 +12,6 @@ use Rattle.reading.specs.declared.Word.the-variants.{Between}
 use Rattle.reading.specs.declared.State.{State}
 use Rattle.reading.proofs.WordLaws.{held-between}
 
--- ---- the end of the text
-
 -- so it is whatever word stands open
 ends-from : (c : ℕ) → separator c ≡ true → (text : List ℕ) (w : Open) → words-from w (text ++ (c ∷ [])) ≡ words-from w text
 ends-from c h [] w =
@@ -31,8 +29,6 @@ ends-as c h text = ends-from c h text between
 pub ends-as-separator : (text : List ℕ) → words (text ++ (32 ∷ [])) ≡ words text
 ends-as-separator text = ends-as 32 refl text
 
--- ---- a text that has been fed
-
 -- where no word stands open and none was refused, the words are the numbers taken
 pub fed-words : {text numbers : List ℕ} {s : State} → Fed text numbers s → s .more ≡ false → s .word ≡ Between →
     words text ≡ as-words (taken-of numbers s)
@@ -41,8 +37,6 @@ fed-words {text} {numbers} {s} (so-far w e t p k) m b =
     ∙ ap (λ (v : Open). as-words (taken-of numbers s) ++ closed v) (held-between w (subst (λ (v : Word). Shows v w) b p))
     ∙ append-nil (as-words (taken-of numbers s))
 fed-words (stopped word e t p k) m b = absurd (true≢false (sym e ∙ m))
-
--- ---- worked examples
 
 -- "2 2 0 17"
 pub four-numbers : words (50 ∷ 32 ∷ 50 ∷ 32 ∷ 48 ∷ 32 ∷ 49 ∷ 55 ∷ []) ≡ some 2 ∷ some 2 ∷ some 0 ∷ some 17 ∷ []

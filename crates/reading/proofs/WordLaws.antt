@@ -13,8 +13,6 @@ use Rattle.reading.specs.Parts.{Grows}
 use Rattle.reading.specs.declared.Word.{Word}
 use Rattle.reading.specs.declared.Word.the-variants.{Between, Digits, Other}
 
--- ---- digits
-
 both-true : (a b : Bool) → (a && b) ≡ true → (a ≡ true) × (b ≡ true)
 both-true true true e = (refl, refl)
 both-true true false e = absurd (true≢false (sym e))
@@ -24,8 +22,6 @@ pub digit-bounds : (c : ℕ) → digit c ≡ true → (48 ≤ c) × (c ≤ 57)
 digit-bounds c e =
     let h = both-true (leb 48 c) (leb c 57) e in
     (leb-true 48 c (h .0), leb-true c 57 (h .1))
-
--- ---- which word stands open, by how it is held
 
 pub held-between : (w : Open) → Shows Between w → w ≡ between
 held-between between p = refl
@@ -60,8 +56,6 @@ held-one v other p = absurd p
 -- a number is the word that it closes as
 pub closed-value : (v : ℕ) → v ≤ most-number → closed (digits v) ≡ some v ∷ []
 closed-value v h = ap (λ (b : Bool). cond b none (some v) ∷ []) (le-ltb most-number v h)
-
--- ---- a further byte
 
 -- no digit
 pub grows-other : (w : Word) (c : ℕ) → digit c ≡ false → Grows w c Other

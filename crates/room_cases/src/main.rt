@@ -1,9 +1,9 @@
 // The room question at the limits and on both sides of them: each line is C, N and Q as asked, then the number that comes back (0: no
 // refusal) and the values. What it must write was written by tests/second/room.py.
 use libc::STDOUT_FILENO;
+use room::RoomAnswer;
 use tables::refusal::carried;
 use tables::refusal::number;
-use tables::room::RoomAnswer;
 
 const CHANNELS: [u64; 8] = [
     0,
@@ -26,7 +26,7 @@ fn put(x: u64) {
 }
 
 fn answer(channels: u64, scans: u64, settings: u64) {
-    match tables::room::room_for(channels, scans, settings) {
+    match room::room_for(channels, scans, settings) {
         RoomAnswer::Given(room) => {
             put(0);
             put(room.cells);

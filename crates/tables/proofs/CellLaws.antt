@@ -1,8 +1,9 @@
 -- The sizes of a table within document 01's limits. Assumes nothing.
 use mathlib.Core.Path.{_≡_, refl}
-use Prim.Native.Nat.{ℕ, zero, suc, _+_, _-_, _*_, _≤_}
+use Prim.Native.Nat.{ℕ, zero, suc, _+_, _-_, _*_, _≤_, _<_}
 use native.Mathlib.Nat.{mul-le-mul-left, mul-le-mul-right}
 use native.Mathlib.Omega.{arith}
+use Rattle.laws.proofs.Lists.{part}
 use Rattle.tables.specs.Limits.{most-scans, most-settings, most-channels}
 use Rattle.tables.specs.Tables.{cells, cell}
 
@@ -28,3 +29,9 @@ later-cell Q (suc i) p q h = let e : suc i - 1 ≡ i = omega arith in rw e
 -- what the room question multiplies
 pub bytes-small : {C k : ℕ} → C ≤ most-channels → k ≤ 261904 → 4 * C * k ≤ 1098516004864
 bytes-small {C} {k} h g = omega (arith, mul-le-mul-left {m = k} {n = 261904} (4 * C) g)
+
+-- a scan's cell is one of the table's
+pub cell-inside : (N Q i p q : ℕ) → i < N → p < Q → q < Q → cell Q i p q < cells N Q
+cell-inside N Q zero p q h l m = omega arith
+cell-inside N Q (suc i) p q h l m =
+    omega (arith, part Q {j = p} {m = Q} l, part (Q * Q) {j = i} {m = N - 1} (omega arith))

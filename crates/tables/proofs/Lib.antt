@@ -1,11 +1,8 @@
 pub mod CellLaws
-pub mod Tests
-pub mod LegalLaws
-pub mod RoomLaws
+pub mod LawLaws
 pub mod RefusalLaws
 pub mod Listing
 pub mod Bench
 pub mod SeriesLaws
 pub mod Totals
 pub mod Hidden
-pub mod Stores

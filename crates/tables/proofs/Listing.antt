@@ -11,7 +11,8 @@ use Rattle.criteria.proofs.Decide.{dec-×, dec-×₃, not?}
 use Rattle.criteria.proofs.Finite.{Finite}
 use Rattle.tables.specs.Limits.{forbidden}
 use Rattle.tables.specs.Series.{Series, Kept, problem}
-use Rattle.tables.specs.Tables.{Law, law-of, Follows, Table, rate-at, series, planning, table}
+use Rattle.tables.specs.Law.{Law, law-of, Follows}
+use Rattle.tables.specs.Tables.{Table, rate-at, series, planning, table}
 
 -- each number below b before each list
 abbrev pub each : ℕ → List (List ℕ) → List (List ℕ)

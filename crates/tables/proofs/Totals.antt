@@ -3,8 +3,8 @@
 use mathlib.Core.Path.{_≡_}
 use mathlib.Core.Logic.{_≢_, _⊎_, inl, inr}
 use mathlib.Core.List.{List, [], _∷_}
-use Prim.Native.Nat.{ℕ, suc, _*_, _≤_, _<_, _^_}
-use native.Mathlib.Nat.{mul-le-mul-left}
+use Prim.Native.Nat.{ℕ, suc, _*_, _≤_, _<_, _^_, _+_}
+use native.Mathlib.Nat.{mul-le-mul-left, mul-le-mul-right}
 use native.Mathlib.Decide.{decLt}
 use native.Mathlib.Omega.{arith}
 use lib.ListN.{length, List·getD-eq-default}
@@ -94,3 +94,13 @@ module _ (t : Table) (legal : LegalTable t) where
       let r = average-small (planning t) a (average-certificate (planning t) (table-finite t law?) a) most-total most-total
       (λ u w. totals-bounded u w .0) (totals-bounded s (a .plan .one) .1) (omega arith) in
       (omega (arith, r .0), a .lowest .whole, omega (arith, r .1))
+
+-- a cost within the limits
+pub cost-small : {n d D R : ℕ} → n ≤ most-term → d ≤ most-term → D ≤ most-total → R ≤ most-total → d * D + n * R < 2 ^ 61
+cost-small {n} {d} {D} {R} hn hd hD hR = omega (
+  arith,
+  mul-le-mul-left {m = D} {n = most-total} d hD,
+  mul-le-mul-right {m = d} {n = most-term} most-total hd,
+  mul-le-mul-left {m = R} {n = most-total} n hR,
+  mul-le-mul-right {m = n} {n = most-term} most-total hn,
+)

@@ -1,11 +1,12 @@
 -- Document 01, "Tables". Assumes nothing.
 use mathlib.Core.Logic.{_≢_}
 use mathlib.Core.List.{List}
-use Prim.Native.Nat.{ℕ, zero, suc, _+_, _-_, _*_, _≤_}
+use Prim.Native.Nat.{ℕ, zero, suc, _+_, _-_, _*_}
 use lib.ListN.{getD}
 use Rattle.criteria.specs.Choice.{Problem}
 use Rattle.tables.specs.Limits.{forbidden}
 use Rattle.tables.specs.Series.{Series, problem}
+use Rattle.tables.specs.Law.{Law, Follows, law-of}
 
 -- "Each table has exactly Q + (N - 1)Q² cells"
 abbrev pub cells : ℕ → ℕ → ℕ
@@ -15,29 +16,6 @@ cells N Q = Q + (N - 1) * (Q * Q)
 abbrev pub cell : ℕ → ℕ → ℕ → ℕ → ℕ
 cell Q zero p q = q
 cell Q (suc i) p q = Q + i * (Q * Q) + p * Q + q
-
--- A step law is only a statement of which setting may follow which.
-abbrev pub Law : Type 1
-Law = ℕ → ℕ → Type 0
-
--- "any change between scans"
-abbrev pub any-step : Law
-any-step p q = Unit {0}
-
--- "consecutive settings differ by at most 2"
-abbrev pub within-two : Law
-within-two p q = (p ≤ q + 2) × (q ≤ p + 2)
-
--- "Step law 0 .. Step law 1 ..": any other number is no law, and allows nothing
-abbrev pub law-of : ℕ → Law
-law-of zero = any-step
-law-of (suc zero) = within-two
-law-of (suc (suc k)) = λ p q. ⊥
-
--- the law speaks of consecutive settings: nothing stands before scan 0
-abbrev pub Follows : Law → ℕ → ℕ → ℕ → Type 0
-Follows law zero p q = Unit {0}
-Follows law (suc i) p q = law p q
 
 pub record Table : Type 1 where
   pub N : ℕ

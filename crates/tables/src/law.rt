@@ -2,7 +2,7 @@
 ghost use mathlib.Core.Path.{_≡_};
 ghost use mathlib.Core.Logic.{_↔_};
 ghost use mathlib.Core.Bool.{true};
-ghost use Rattle.tables.specs.Tables.{«law-of»};
+ghost use Rattle.tables.specs.Law.{«law-of»};
 
 // May this setting follow that one? Any number but 0 and 1 is no law, and allows nothing.
 pub fn keeps(law: u64, before: u64, setting: u64) -> bool

@@ -1,8 +1,6 @@
-// Document 01's tables: cells, laws, legality, the refusals, the room question.
+// Document 01's tables: cells, laws, the refusals, the common divisor.
 pub mod cells;
 pub mod common;
 pub mod law;
-pub mod legal;
 pub mod limits;
 pub mod refusal;
-pub mod room;

@@ -6,8 +6,7 @@ use Prim.Native.Nat.{ℕ, _+_, _-_, _≤_, _<_, min}
 use native.Mathlib.Omega.{arith}
 use lib.Dec.{eqb}
 use borrow.Author.Tests.{eqb-true}
-use Rattle.tables.specs.Tables.{law-of}
-use Rattle.tables.specs.Planning.{law-out}
+use Rattle.tables.specs.Law.{law-of, law-out}
 use Rattle.trellis.specs.Step.{band-from, band-to}
 
 -- a law that passed check 3 is 0 or 1

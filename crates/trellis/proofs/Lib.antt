@@ -1,10 +1,6 @@
-pub mod ListLaws
-pub mod RunLaws
-pub mod PriceLaws
 pub mod SquareLaws
 pub mod BandLaws
 pub mod StepLaws
-pub mod WalkLaws
 pub mod Onward
 pub mod Rows
 pub mod PassLaws

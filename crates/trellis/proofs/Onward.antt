@@ -10,7 +10,7 @@ use lib.ListN.{length}
 use Rattle.criteria.specs.Order.{Then, lower, tie, First}
 use Rattle.criteria.proofs.Order.{then-le, then-tie, then-trans, first-antisym}
 use Rattle.tables.specs.Series.{Series, Kept, total}
-use Rattle.weights.specs.OneKey.{Least}
+use Rattle.keys.specs.OneKey.{Least}
 
 -- the allowed ways on: n settings from scan i, after setting p
 abbrev pub Onward : Series → ℕ → ℕ → ℕ → List ℕ → Type 0

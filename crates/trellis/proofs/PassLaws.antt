@@ -11,19 +11,22 @@ use lib.Seq.{getD-set-same, getD-set-other}
 use borrow.Author.Tests.{ltb-true, ltb-false}
 use Rattle.criteria.specs.Choice.{NoneAllowed}
 use Rattle.tables.specs.Series.{Series, total}
-use Rattle.tables.specs.Tables.{Table, cells, law-of, Follows, rate-at, distortion-at, series, table}
+use Rattle.tables.specs.Tables.{Table, cells, rate-at, distortion-at, series, table}
+use Rattle.tables.specs.Law.{law-of, Follows}
 use Rattle.tables.proofs.CellLaws.{later-cell}
 use Rattle.tables.proofs.Totals.{Small, table-small, total-small, legal-anywhere}
-use Rattle.weights.specs.OneKey.{Least}
-use Rattle.trellis.specs.declared.least.Rule.{Rule}
-use Rattle.trellis.specs.Step.{no-way, price-of, candidate, Ready, Sixteen, BestOf, band-from, band-to}
+use Rattle.keys.specs.OneKey.{Least}
+use Rattle.least.specs.declared.Rule.{Rule}
+use Rattle.least.specs.Row.{no-way, price-of, candidate, Ready, BestOf, Light}
+use Rattle.trellis.specs.Step.{Sixteen, band-from, band-to}
 use Rattle.trellis.specs.Stepped.{Stepped}
 use Rattle.trellis.specs.Chosen.{choice, walk, chosen}
-use Rattle.trellis.specs.Pass.{Fit, Light, under, asked, weighed}
-use Rattle.trellis.proofs.PriceLaws.{cell-fits, open-price, price-open}
+use Rattle.checks.specs.Fit.{Fit}
+use Rattle.trellis.specs.Pass.{under, asked, weighed}
+use Rattle.least.proofs.PriceLaws.{cell-fits, open-price, price-open}
 use Rattle.trellis.proofs.BandLaws.{band-in, band-out}
-use Rattle.trellis.proofs.SquareLaws.{part}
-use Rattle.trellis.proofs.WalkLaws.{fit-legal}
+use Rattle.laws.proofs.Lists.{part}
+use Rattle.checks.proofs.FitLaws.{fit-legal}
 use Rattle.trellis.proofs.Onward.{LeastOn}
 use Rattle.trellis.proofs.Rows.{Row, Chosen, Below, row-end, row-step, row-frame}
 

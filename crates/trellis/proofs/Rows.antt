@@ -9,7 +9,7 @@ use lib.ListN.{length}
 use Rattle.criteria.specs.Order.{lower, tie}
 use Rattle.criteria.proofs.Order.{then-le}
 use Rattle.tables.specs.Series.{Series, Kept, total}
-use Rattle.trellis.specs.Step.{no-way}
+use Rattle.least.specs.Row.{no-way}
 use Rattle.trellis.specs.Chosen.{walk}
 use Rattle.trellis.proofs.Onward.{Onward, LeastOn, Prefer, least-end, least-step}
 

@@ -1,17 +1,12 @@
 -- A square filled row by row. Assumes nothing.
 use mathlib.Core.Path.{_≡_, _∙_}
 use mathlib.Core.List.{List, []}
-use Prim.Native.Nat.{ℕ, _+_, _*_, _≤_, _<_}
-use native.Mathlib.Nat.{mul-le-mul-right, suc-mul}
+use Prim.Native.Nat.{ℕ, _+_, _<_}
 use native.Mathlib.Decide.{ℕ-discrete}
 use native.Mathlib.Omega.{arith}
 use lib.ListN.{length, getD, set, length-set}
 use lib.Seq.{getD-set-same, getD-set-other}
 use Rattle.trellis.specs.Step.{Sixteen}
-
--- part j of m parts of k ends within them
-pub part : (k : ℕ) {j m : ℕ} → j < m → j * k + k ≤ m * k
-part k {j} {m} h = rw suc-mul at (mul-le-mul-right k h)
 
 -- one row more
 module _ (square : List (List ℕ)) (p : ℕ) (row : List ℕ) (s : Sixteen square) (h : p < 16) where

@@ -6,7 +6,7 @@ use native.Mathlib.Decide.{ℕ-discrete}
 use native.Mathlib.Omega.{arith}
 use lib.ListN.{length, getD, set}
 use lib.Seq.{getD-set-same, getD-set-other}
-use Rattle.trellis.specs.Step.{BestOf}
+use Rattle.least.specs.Row.{BestOf}
 
 -- the least of p's candidates and the first that attains it are stored beside those of the settings below p
 pub steps-more : (x : ℕ → ℕ → ℕ) (lo hi : ℕ → ℕ) (to : ℕ) (keys scratch : List ℕ) (p v f : ℕ) → p < length keys → to + p < length scratch →

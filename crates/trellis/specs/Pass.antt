@@ -2,33 +2,14 @@
 use mathlib.Core.Path.{_≡_}
 use mathlib.Core.Bool.{Bool, true, false}
 use mathlib.Core.List.{List}
-use Prim.Native.Nat.{ℕ, _+_, _*_, _≤_, _<_}
+use Prim.Native.Nat.{ℕ, _+_, _*_, _≤_}
 use lib.ListN.{length, getD}
 use Rattle.criteria.specs.Choice.{Problem, NoneAllowed}
-use Rattle.tables.specs.Limits.{most-scans, most-settings}
 use Rattle.tables.specs.Series.{Series, problem}
-use Rattle.tables.specs.Tables.{cells, table, series}
-use Rattle.tables.specs.Legal.{AllLegal}
-use Rattle.tables.specs.Planning.{law-out}
-use Rattle.weights.specs.OneKey.{Least, wide}
-use Rattle.trellis.specs.declared.least.Rule.{Rule}
+use Rattle.tables.specs.Tables.{table, series}
+use Rattle.keys.specs.OneKey.{Least}
+use Rattle.least.specs.declared.Rule.{Rule}
 use Rattle.trellis.specs.Chosen.{chosen}
-
--- what the checks 1 to 7 have passed: N, Q, law, the tables and the length of the scratch
-pub record Fit (N Q law : ℕ) (rates distortions : List ℕ) (scratch : ℕ) : Type 0 where
-  pub some-scans : 1 ≤ N
-  pub scans : N ≤ most-scans
-  pub some-settings : 1 ≤ Q
-  pub settings : Q ≤ most-settings
-  pub law-known : law-out law ≡ false
-  pub rates-long : length rates ≡ cells N Q
-  pub distortions-long : length distortions ≡ cells N Q
-  pub legal : AllLegal rates distortions
-  pub room : N * Q ≤ scratch
-
--- weights of 31 bits
-abbrev pub Light : Rule → Type 0
-Light rule = (rule .a < wide) × (rule .b < wide)
 
 -- a series' steps that stay under a ceiling
 abbrev pub under : ℕ → Series → Series

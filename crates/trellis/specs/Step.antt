@@ -1,58 +1,14 @@
 -- One scan: what a choice costs, and the least of a row of candidates. Assumes nothing.
 use mathlib.Core.Path.{_≡_}
-use mathlib.Core.Bool.{Bool, _||_, cond}
+use mathlib.Core.Bool.{cond}
 use mathlib.Core.List.{List, []}
-use Prim.Native.Nat.{ℕ, _+_, _-_, _*_, _≤_, _<_, min}
-use lib.Dec.{eqb, ltb}
+use Prim.Native.Nat.{ℕ, _+_, _-_, _<_, min}
+use lib.Dec.{eqb}
 use lib.ListN.{length, getD}
-use Rattle.tables.specs.Limits.{forbidden}
-use Rattle.tables.specs.Legal.{LegalRate, LegalBeside}
-use Rattle.trellis.specs.declared.least.Rule.{Rule}
-
--- 2 ^ 62, which no sequence costs
-abbrev pub no-way : ℕ
-no-way = 4611686018427387904
-
--- a choice that is forbidden, or over the ceiling
-abbrev pub shut-by : (ceiling rate distortion : ℕ) → Bool
-shut-by ceiling rate distortion = eqb rate forbidden || ltb ceiling distortion
-
--- what a choice costs, by the rule's weights
-unfoldable pub price-of : Rule → (rate distortion : ℕ) → ℕ
-price-of rule rate distortion = cond (shut-by (rule .ceiling) rate distortion) no-way (rule .a * distortion + rule .b * rate)
-
--- .. and with it what lies ahead of setting q
-abbrev pub candidate : Rule → (rates distortions keys : List ℕ) → ℕ → ℕ
-candidate rule rates distortions keys q = price-of rule (getD rates q 0) (getD distortions q 0) + getD keys q 0
 
 -- 16 rows of 16
 abbrev pub Sixteen : List (List ℕ) → Type 0
 Sixteen square = (length square ≡ 16) × ((p : ℕ) → p < 16 → length (getD square p []) ≡ 16)
-
--- the first k cells of a row are legal, and what lies ahead of each setting leaves room
-abbrev pub Ready : ℕ → (rates distortions keys : List ℕ) → Type 0
-Ready k rates distortions keys =
-    (q : ℕ) → q < k → LegalRate (getD rates q 0) × LegalBeside (getD rates q 0) (getD distortions q 0) × (getD keys q 0 ≤ no-way)
-
--- the later of two takes the place of the earlier where it is less
-abbrev pub Joins : (key first key′ first′ key″ first″ : ℕ) → Type 0
-Joins key first key′ first′ key″ first″ = (key″ ≡ cond (ltb key′ key) key′ key) × (first″ ≡ cond (ltb key′ key) first′ first)
-
--- key is the least of x from lo up to hi, and `first` the first that attains it
-pub record RunOf (x : ℕ → ℕ) (lo hi key first : ℕ) : Type 0 where
-  pub from : lo ≤ first
-  pub to : first < hi
-  pub is : key ≡ x first
-  pub least : (q : ℕ) → lo ≤ q → q < hi → key ≤ x q
-  pub before : (q : ℕ) → lo ≤ q → q < first → key < x q
-
--- the same of candidates of which those from no-way on do not count: key is no-way where there is none
-pub record BestOf (x : ℕ → ℕ) (lo hi key first : ℕ) : Type 0 where
-  pub capped : key ≤ no-way
-  pub inside : first ≤ hi
-  pub least : (q : ℕ) → lo ≤ q → q < hi → key ≤ x q
-  pub found : key < no-way → (lo ≤ first) × (first < hi) × (key ≡ x first)
-  pub before : key < no-way → (q : ℕ) → lo ≤ q → q < first → key < x q
 
 -- the settings of k that may follow p under a law: from this one ..
 abbrev pub band-from : ℕ → ℕ → ℕ

@@ -3,8 +3,9 @@ use mathlib.Core.Path.{_≡_}
 use mathlib.Core.List.{List, []}
 use Prim.Native.Nat.{ℕ, _+_, _≤_, _<_}
 use lib.ListN.{length, getD}
-use Rattle.trellis.specs.declared.least.Rule.{Rule}
-use Rattle.trellis.specs.Step.{candidate, BestOf, band-from, band-to}
+use Rattle.least.specs.declared.Rule.{Rule}
+use Rattle.least.specs.Row.{candidate, BestOf}
+use Rattle.trellis.specs.Step.{band-from, band-to}
 
 -- for each of k settings before the scan, the least of the candidates that the law lets follow it, and in scratch, from `to` on, which
 pub record Stepped (rule : Rule) (law k to : ℕ) (rates distortions : List (List ℕ)) (keys keys′ scratch scratch′ : List ℕ) : Type 0 where

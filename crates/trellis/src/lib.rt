@@ -3,7 +3,5 @@
 // A pass goes backward. For every setting that the scan before may have, it keeps the least cost to the end and the lowest setting that
 // attains it; read forward, those choices give the first of the best. It knows weights and a ceiling, and not which criterion is asked.
 pub mod band;
-pub mod least;
 pub mod pass;
 pub mod square;
-pub mod walk;

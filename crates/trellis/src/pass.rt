@@ -1,17 +1,18 @@
 // One pass, from the last scan to the first.
 use crate::band;
-use crate::least::NO_WAY;
-use crate::least::Rule;
-use crate::least::pick;
 use crate::square::row_into;
 use crate::square::square_into;
+use least::NO_WAY;
+use least::Rule;
+use least::pick;
 ghost use mathlib.Core.Path.{_≡_};
 ghost use mathlib.Core.List.{[]};
 ghost use Prim.Native.Nat.{ℕ, _+_, _*_, _≤_, _<_};
 ghost use lib.ListN.{getD, length};
-ghost use Rattle.trellis.specs.Step.{Ready};
+ghost use Rattle.least.specs.Row.{Ready, Light};
 ghost use Rattle.trellis.specs.Stepped.{Stepped};
-ghost use Rattle.trellis.specs.Pass.{Fit, Light, Passed, asked};
+ghost use Rattle.checks.specs.Fit.{Fit};
+ghost use Rattle.trellis.specs.Pass.{Passed, asked};
 
 // One scan, from its squares: what lies ahead of each setting before it, and the choices, stored from `to` on.
 fn step(

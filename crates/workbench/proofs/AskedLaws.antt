@@ -4,7 +4,7 @@ use mathlib.Core.Logic.{_⊎_, inl, inr}
 use mathlib.Core.Bool.{Bool, true, false, cond, _||_, _&&_}
 use mathlib.Core.Option.{Option, none, some}
 use mathlib.Core.List.{List, [], _∷_, _++_, append-nil, append-assoc}
-use Prim.Native.Nat.{ℕ, zero, suc, _+_, _-_, _*_, _≤_, _<_, min}
+use Prim.Native.Nat.{ℕ, zero, suc, _+_, _*_, _≤_, _<_, min}
 use native.Mathlib.Omega.{arith}
 use lib.Dec.{ltb, leb}
 use lib.ListN.{length, getD, take, drop, length-append, length-take, length-drop}
@@ -12,17 +12,16 @@ use lib.Seq.{take-all}
 use borrow.Author.Tests.{eqb-true, eq-eqb, ltb-true, ltb-false, leb-true}
 use Rattle.tables.specs.declared.refusal.Refusal.the-variants as refusal
 use Rattle.tables.specs.Tables.{cells}
-use Rattle.tables.specs.Planning.{first-refusal, or-later, scans-out, settings-out, law-out}
-use Rattle.tables.proofs.Tests.{never}
+use Rattle.checks.specs.Checks.{first-refusal, or-later}
+use Rattle.checks.specs.Planning.{scans-out, settings-out}
+use Rattle.tables.specs.Law.{law-out}
+use Rattle.laws.proofs.Tests.{never}
 use Rattle.reading.specs.Text.{Open, between, digits, other, words, words-from, closed, grown, separator}
 use Rattle.reading.specs.Fed.{Fed, so-far, stopped, as-words, taken-of}
 use Rattle.reading.specs.declared.State.{State}
 use Rattle.reading.proofs.Text.{ends-as-separator}
-use Rattle.workbench.specs.Asked.{Asked, bad-input, too-large, to-plan}
-use Rattle.workbench.specs.Asked.{asked, first, add, most-cells, range-checks, with-cells, with-rest, with-four, in-range}
+use Rattle.workbench.specs.Asked.{Asked, bad-input, too-large, to-plan, asked, first, add, most-cells, range-checks, with-cells, with-rest, with-four, in-range}
 use Rattle.workbench.specs.Done.{settles, Decided}
-
--- ---- the first words, where they are numbers
 
 -- none of the words from here on can be taken for a number
 abbrev pub Barred : List (Option ℕ) → Type 0
@@ -41,8 +40,6 @@ pub first-barred : (k : ℕ) (l : List ℕ) (ws : List (Option ℕ)) → length 
 first-barred zero l ws h b = absurd (omega arith)
 first-barred (suc k) [] ws h b = b k
 first-barred (suc k) (x ∷ l) ws h b = ap (λ (o : Option (List ℕ)). add x o) (first-barred k l ws (omega arith) b)
-
--- ---- the first four
 
 -- what the first four numbers settle, where a is asked if they are in range and the table is not too large
 abbrev pub settled : List ℕ → Asked → Asked
@@ -100,8 +97,6 @@ settled-whatever n a b e = by-tests (scans-out (getD n 0 0)) (settings-out (getD
     by-tests false false false true e = refl
     by-tests false false false false e = never (cc)
 
--- ---- the words after the first four
-
 -- they are bad input if they are not so many as the cells, or if not all of them are numbers
 bad-unless : (b : Bool) (a : Asked) → (b ≡ true → a ≡ bad-input) → cond b a bad-input ≡ bad-input
 bad-unless true a f = f refl
@@ -143,8 +138,6 @@ rest-cells n m e =
     ap (λ (b : Bool). cond b (w (first k (as-words m ++ []))) bad-input) (eq-eqb _ _ long)
     ∙ ap (λ (o : Option (List ℕ)). w o) (first-taken k m [] (omega arith))
     ∙ ap (λ (l : List ℕ). w (some l)) (take-all k m (omega arith))
-
--- ---- from what is known of a text
 
 -- a word that cannot be taken: what is asked, whatever follows
 abbrev pub stop-asked : List ℕ → ℕ → Asked
@@ -188,8 +181,6 @@ enough-decides n s len e text (so-far w m t sh f) rest =
 enough-decides n s len e text (stopped word m t wh f) rest =
     by-words (text ++ rest) (f rest .1) ∙ stop-words n (s .taken) word (f rest .0) len t wh
     ∙ sym (by-words text (ap words (sym (append-nil text)) ∙ f [] .1) ∙ stop-words n (s .taken) word (f [] .0) len t wh)
-
--- ---- a text that a separator ends
 
 -- a separator parts the words before it from those after it
 pub parted : (w : Open) (text rest : List ℕ) → words-from w (text ++ (32 ∷ rest)) ≡ words-from w text ++ words-from between rest

@@ -12,8 +12,10 @@ use borrow.Author.Tests.{eqb-true, eqb-false, le-ltb, lt-ltb}
 use Rattle.tables.specs.declared.refusal.Refusal.{Refusal}
 use Rattle.tables.specs.declared.refusal.Refusal.the-variants.{Scans, Settings, StepLaw}
 use Rattle.tables.specs.Tables.{cells}
-use Rattle.tables.specs.Planning.{or-later, scans-out, settings-out, law-out}
-use Rattle.tables.proofs.Tests.{never}
+use Rattle.checks.specs.Checks.{or-later}
+use Rattle.checks.specs.Planning.{scans-out, settings-out}
+use Rattle.tables.specs.Law.{law-out}
+use Rattle.laws.proofs.Tests.{never}
 use Rattle.reading.specs.Fed.{as-words, taken-of}
 use Rattle.reading.specs.declared.State.{State}
 use Rattle.workbench.specs.Asked.{Asked, bad-input, out-of-range, too-large, to-plan, asked, most-cells, in-range}
@@ -26,8 +28,6 @@ use Rattle.workbench.proofs.AskedLaws.{settled, rest-asked, by-words, f
 -- a test of a number that was read, and what it answered
 pub tested : (f : ℕ → Bool) {x y : ℕ} {r b : Bool} → r ≡ f x → x ≡ y → r ≡ b → f y ≡ b
 tested f e x r = sym (ap f x) ∙ sym e ∙ r
-
--- ---- the first four
 
 pub refuses-scans : (n : List ℕ) → scans-out (scans n) ≡ true → Heads n (head.Refused Scans)
 refuses-scans n a = rw a
@@ -75,8 +75,6 @@ head-settles n (head.Refused r) e = settles-refused n r e
 head-settles n head.TooLarge e = settles-by-size n (e .0) ∙ lt-ltb _ _ (e .1)
 head-settles n (head.Cells k) f =
     settles-by-size n (f .in-range) ∙ not-large f
-
--- ---- the rest
 
 -- what is asked beyond the first four
 abbrev left-asked : List ℕ → State → Asked

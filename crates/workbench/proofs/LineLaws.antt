@@ -7,10 +7,10 @@ use lib.ListN.{length, take, drop, replicate, length-take}
 use lib.Seq.{sets, sets-eq, length-sets, take-at}
 use Rattle.tables.specs.declared.refusal.Refusal.{Refusal}
 use Rattle.tables.specs.Refusals.{refused}
-use Rattle.planner.specs.declared.answer.AverageAnswer.{AverageAnswer}
-use Rattle.planner.specs.declared.answer.MinmaxAnswer.{MinmaxAnswer}
-use Rattle.planner.specs.Checked.{asking}
-use Rattle.planner.specs.Promise.{AveragePromise, MinmaxPromise, average-reply, minmax-reply}
+use Rattle.promise.specs.declared.AverageAnswer.{AverageAnswer}
+use Rattle.promise.specs.declared.MinmaxAnswer.{MinmaxAnswer}
+use Rattle.checks.specs.Checked.{asking}
+use Rattle.promise.specs.Promise.{AveragePromise, MinmaxPromise, average-reply, minmax-reply}
 use Rattle.printing.specs.Lines.{ave-line, minmax-line}
 use Rattle.printing.specs.Parts.{Put}
 use Rattle.printing.proofs.PutLaws.{put-so, next}
@@ -20,8 +20,6 @@ use Rattle.workbench.specs.Asked.{Asked, out-of-range, to-plan}
 use Rattle.workbench.specs.Written.{WrittenFor, both-refused, both-planned}
 use Rattle.workbench.specs.Done.{Answers}
 use Rattle.workbench.specs.Parts.{PutAve, PutMinmax, Holds, Asks, plan-asked, scans, settings, law, budget, rates, distortions}
-
--- ---- the line of a plan
 
 -- what the function of a line ensures
 pub line-put : {d e : List ℕ} {at r most : ℕ} (line : List ℕ) → (r ≡ at + length line) × ((e ≡ sets d at line) × (r ≤ most)) → Put d at line e r
@@ -57,8 +55,6 @@ module _ {N Q l B : ℕ} {rs ds before after plan scratch : List ℕ} {at r : �
     short = omega (arith, few-bytes N plan small);
   }
 
--- ---- the tables that were read
-
 -- the two parts of the numbers that are lent
 rates-part : (n : List ℕ) (k : ℕ) → take (4 + k - 4) (drop 4 n) ≡ rates n k
 rates-part n k = ap (λ (j : ℕ). take j (drop 4 n)) (let e : 4 + k - 4 ≡ k = omega arith in e)
@@ -73,8 +69,6 @@ read-asked n k {N} {Q} {l} {B} a b c d =
     let rs = rates-part n k in
     let ds = distortions-part n k in
     cc
-
--- ---- what they leave in the buffer
 
 -- one line, from the start
 pub one-line : (d l : List ℕ) → length l ≤ length d → take (length l) (sets d 0 l) ≡ l
@@ -103,8 +97,6 @@ pub planned-put : {N Q l B : ℕ} {rs ds d e f : List ℕ} {m r : ℕ} {a : Aske
 planned-put {N} {Q} {l} {B} {rs} {ds} q u w h =
     let z = both-put (u .put) (w .put) (omega (arith, u .short, w .short)) in
     (z .0, rw (z .1, q) (both-planned N Q l B rs ds (u .line) (w .line) (u .right) (w .right)))
-
--- ---- the answer for the text that was read
 
 -- what is written for what the ended text asks is written for the text
 pub answers : {n m out : List ℕ} {s e : State} {a : Asked} → Feeds n (32 ∷ []) s m e → Asks m e a → WrittenFor a out → Answers n s out

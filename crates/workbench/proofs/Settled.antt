@@ -3,10 +3,10 @@ use mathlib.Core.Path.{_≡_, refl, sym, ap, _∙_}
 use mathlib.Core.List.{List, _++_}
 use Prim.Native.Nat.{ℕ}
 use lib.ListN.{take}
-use Rattle.planner.specs.declared.answer.AverageAnswer.{AverageAnswer}
-use Rattle.planner.specs.declared.answer.MinmaxAnswer.{MinmaxAnswer}
-use Rattle.planner.specs.Promise.{average-reply, minmax-reply}
-use Rattle.planner.proofs.Settled.{average-settled, minmax-settled}
+use Rattle.promise.specs.declared.AverageAnswer.{AverageAnswer}
+use Rattle.promise.specs.declared.MinmaxAnswer.{MinmaxAnswer}
+use Rattle.promise.specs.Promise.{average-reply, minmax-reply}
+use Rattle.promise.proofs.Settled.{average-settled, minmax-settled}
 use Rattle.printing.specs.Lines.{ave-line, minmax-line}
 use Rattle.workbench.specs.Asked.{Asked}
 use Rattle.workbench.specs.Written.{AveLine, MinmaxLine, WrittenFor, Writes, alone-bad, alone-large, both-refused, both-planned}

@@ -8,7 +8,9 @@ use lib.ListN.{length, getD, take, drop}
 use Rattle.tables.specs.declared.refusal.Refusal.{Refusal}
 use Rattle.tables.specs.declared.refusal.Refusal.the-variants as refusal
 use Rattle.tables.specs.Tables.{cells}
-use Rattle.tables.specs.Planning.{Check, first-refusal, scans-out, settings-out, law-out}
+use Rattle.checks.specs.Checks.{Check, first-refusal}
+use Rattle.checks.specs.Planning.{scans-out, settings-out}
+use Rattle.tables.specs.Law.{law-out}
 use Rattle.reading.specs.Text.{words}
 
 pub data Asked : Type 0 where

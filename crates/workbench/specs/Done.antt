@@ -6,7 +6,8 @@ use Prim.Native.Nat.{ℕ}
 use lib.Dec.{ltb}
 use lib.ListN.{getD}
 use Rattle.tables.specs.Tables.{cells}
-use Rattle.tables.specs.Planning.{scans-out, settings-out, law-out}
+use Rattle.checks.specs.Planning.{scans-out, settings-out}
+use Rattle.tables.specs.Law.{law-out}
 use Rattle.reading.specs.Fed.{Fed}
 use Rattle.reading.specs.declared.State.{State}
 use Rattle.workbench.specs.Asked.{asked, most-cells}

@@ -7,7 +7,8 @@ use Prim.Native.Nat.{ℕ, _+_, _≤_, _<_}
 use lib.ListN.{length, getD, take, drop}
 use Rattle.tables.specs.declared.refusal.Refusal.{Refusal}
 use Rattle.tables.specs.Tables.{cells}
-use Rattle.tables.specs.Planning.{first-refusal, scans-out}
+use Rattle.checks.specs.Checks.{first-refusal}
+use Rattle.checks.specs.Planning.{scans-out}
 use Rattle.printing.specs.Parts.{Put}
 use Rattle.reading.specs.Fed.{Fed}
 use Rattle.reading.specs.declared.State.{State}

@@ -5,10 +5,10 @@ use Prim.Native.Nat.{ℕ}
 use lib.ListN.{take, replicate}
 use Rattle.tables.specs.declared.refusal.Refusal.{Refusal}
 use Rattle.tables.specs.Refusals.{refused}
-use Rattle.planner.specs.declared.answer.AverageAnswer.{AverageAnswer}
-use Rattle.planner.specs.declared.answer.MinmaxAnswer.{MinmaxAnswer}
-use Rattle.planner.specs.Checked.{asking}
-use Rattle.planner.specs.Promise.{AveragePromise, MinmaxPromise, average-reply, minmax-reply}
+use Rattle.promise.specs.declared.AverageAnswer.{AverageAnswer}
+use Rattle.promise.specs.declared.MinmaxAnswer.{MinmaxAnswer}
+use Rattle.checks.specs.Checked.{asking}
+use Rattle.promise.specs.Promise.{AveragePromise, MinmaxPromise, average-reply, minmax-reply}
 use Rattle.printing.specs.Lines.{ave-line, minmax-line, bad-input, too-large}
 use Rattle.workbench.specs.Asked.{Asked, asked, to-plan, out-of-range}
 use Rattle.workbench.specs.Asked as ask

@@ -1,11 +1,11 @@
 // What the numbers of a text ask.
-use planner::check::law_outside;
+use checks::range::law_outside;
+use checks::range::outside;
 use reading::State;
 use tables::cells::count;
 use tables::limits::MOST_SCANS;
 use tables::limits::MOST_SETTINGS;
 use tables::refusal::Refusal;
-use tables::room::outside;
 ghost use mathlib.Core.Path.{_≡_};
 ghost use mathlib.Core.Bool.{not, _&&_};
 ghost use Prim.Native.Nat.{_+_, _*_, _≤_, _<_, _^_};

@@ -1,11 +1,11 @@
 // The lines that bench writes, into a lent buffer.
 use crate::judge::wide;
-use planner::answer::AverageAnswer;
-use planner::answer::MinmaxAnswer;
 use planner::average::average_plan;
 use planner::minmax::minmax_plan;
 use printing::line::ave_line;
 use printing::line::minmax_line;
+use promise::AverageAnswer;
+use promise::MinmaxAnswer;
 use tables::refusal::Refusal;
 ghost use mathlib.Core.Path.{_≡_};
 ghost use Prim.Native.Nat.{_+_, _≤_};

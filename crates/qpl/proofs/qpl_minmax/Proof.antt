@@ -3,7 +3,7 @@ use mathlib.Core.Path.{sym, _∙_}
 use lib.ListN.{length}
 use lib.Seq.{length-take-le}
 use denote.Ref.{now}
-use Rattle.qpl.specs.Surface.{lent}
+use Rattle.telling.specs.Told.{lent}
 use Rattle.qpl.proofs.CarryLaws.{promise-tellable, minmax-needs}
 use Rattle.qpl.proofs.LentLaws.{promise-whole}
 use borrow.Author.Needs.{needs}

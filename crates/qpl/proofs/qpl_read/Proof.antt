@@ -4,8 +4,8 @@ use lib.ListN.{length}
 use lib.Seq.{length-take-le}
 use denote.Ref.{now}
 use Rattle.planfile.specs.Reading.{read-of}
-use Rattle.qpl.specs.Surface.{lent}
-use Rattle.qpl.proofs.AnswerLaws.{tellable-as, told-as}
+use Rattle.telling.specs.Told.{lent}
+use Rattle.telling.proofs.AnswerLaws.{tellable-as, told-as}
 use Rattle.qpl.proofs.CarryLaws.{read-tellable}
 use Rattle.qpl.proofs.LentLaws.{read-whole}
 use borrow.Author.Needs.{needs}

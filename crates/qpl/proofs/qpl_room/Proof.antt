@@ -3,9 +3,9 @@ use mathlib.Core.Path.{sym, ap, _∙_}
 use lib.ListN.{length}
 use denote.Ref.{now}
 use Rattle.tables.specs.declared.refusal.Refusal.the-variants as refusal
-use Rattle.tables.specs.Room.{room-reply}
-use Rattle.qpl.specs.Parts.{room-values}
-use Rattle.qpl.proofs.AnswerLaws.{answer-told, refusal-told}
+use Rattle.room.specs.Room.{room-reply}
+use Rattle.telling.specs.Parts.{room-values}
+use Rattle.telling.proofs.AnswerLaws.{answer-told, refusal-told}
 use Rattle.qpl.proofs.CarryLaws.{room-carries, room-short, room-long, room-refused}
 use borrow.Author.Needs.{needs}
 use Rattle.qpl.proofs.qpl_room.Statement.{statement}

@@ -4,8 +4,9 @@ use mathlib.Core.List.{[], _∷_}
 use lib.ListN.{length}
 use denote.Ref.{now}
 use Rattle.planfile.specs.Writing.{write-reply}
-use Rattle.qpl.specs.Surface.{word-of, fields-told}
-use Rattle.qpl.proofs.AnswerLaws.{word-answered}
+use Rattle.telling.specs.Told.{word-of}
+use Rattle.qpl.specs.Surface.{fields-told}
+use Rattle.telling.proofs.AnswerLaws.{word-answered}
 use Rattle.qpl.proofs.CarryLaws.{write-carries}
 use borrow.Author.Needs.{needs}
 use Rattle.qpl.proofs.qpl_write.Statement.{statement}

@@ -1,9 +1,9 @@
 -- `planfile::header::header` meets its contract. Assumes nothing.
 use mathlib.Core.Path.{ap, _∙_}
 use denote.Ref.{now}
-use Rattle.tables.specs.Planning.{first-refusal}
-use Rattle.planfile.specs.declared.fields.Fields.{Fields}
-use Rattle.planfile.specs.Rules.{header-rules}
+use Rattle.checks.specs.Checks.{first-refusal}
+use Rattle.rules.specs.declared.Fields.{Fields}
+use Rattle.rules.specs.Rules.{header-rules}
 use Rattle.planfile.specs.Reading.{fields-of, marks-of, broken-field}
 use borrow.Author.Needs.{needs}
 use Rattle.planfile.proofs.header.header.Statement.{statement}

@@ -1,6 +1,6 @@
 -- `planfile::header::marks` meets its contract. Assumes nothing.
 use denote.Ref.{now}
-use Rattle.planfile.proofs.MarkLaws.{told-marks}
+use Rattle.planfile.proofs.HeaderLaws.{told-marks}
 use borrow.Author.Needs.{needs}
 use Rattle.planfile.proofs.header.marks.Statement.{statement}
 use Rattle.planfile.proofs.header.marks.Tie as tie

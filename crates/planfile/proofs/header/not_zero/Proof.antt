@@ -5,8 +5,8 @@ use Prim.Native.Nat.{ℕ, _+_, _≤_, _<_, _-_}
 use lib.ListN.{length, getD, replicate, length-replicate, getD-replicate}
 use denote.Ref.{now}
 use borrow.Author.Count.{below-more}
-use Rattle.planfile.specs.Bytes.{part}
-use Rattle.planfile.proofs.PartLaws.{part-get}
+use Rattle.bytes.specs.Bytes.{part}
+use Rattle.bytes.proofs.PartLaws.{part-get}
 use Rattle.planfile.proofs.WalkLaws.{differs, no-differs}
 use Rattle.planfile.proofs.header.not_zero.Statement.{statement}
 use Rattle.planfile.proofs.header.not_zero.Tie as tie

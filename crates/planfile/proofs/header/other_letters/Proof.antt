@@ -5,9 +5,9 @@ use Prim.Native.Nat.{ℕ, _+_, _≤_, _<_, _-_}
 use lib.ListN.{getD}
 use denote.Ref.{now}
 use borrow.Author.Count.{below-more}
-use Rattle.planfile.specs.Bytes.{part}
-use Rattle.planfile.specs.File.{letters}
-use Rattle.planfile.proofs.PartLaws.{part-get}
+use Rattle.bytes.specs.Bytes.{part}
+use Rattle.blocks.specs.File.{letters}
+use Rattle.bytes.proofs.PartLaws.{part-get}
 use Rattle.planfile.proofs.WalkLaws.{differs, no-differs}
 use Rattle.planfile.proofs.header.other_letters.Statement.{statement}
 use Rattle.planfile.proofs.header.other_letters.Tie as tie

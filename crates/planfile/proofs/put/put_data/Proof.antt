@@ -1,7 +1,7 @@
 -- `planfile::put::put_data` meets its contract: number, entries and sum one after the other. Assumes nothing.
 use native.Mathlib.Omega.{arith}
 use denote.Ref.{now}
-use Rattle.planfile.specs.File.{entry-of}
+use Rattle.blocks.specs.File.{entry-of}
 use Rattle.planfile.proofs.PutLaws.{data-stored}
 use borrow.Author.Needs.{needs}
 use Rattle.planfile.proofs.put.put_data.Statement.{statement}

@@ -7,10 +7,12 @@ use lib.ListN.{length, getD, set, replicate}
 use lib.Seq.{sets}
 use borrow.Author.Tests.{ltb-true, ltb-false}
 use denote.Ref.{now}
-use Rattle.planfile.specs.File.{entry-of}
-use Rattle.planfile.specs.Packed.{with-half, place-of}
-use Rattle.planfile.proofs.PutLaws.{kept, entered, Entered, entered-none, entered-more, entered-all, length-entered}
-use Rattle.planfile.proofs.PutLaws.{entry-in, entry-out, setting-small}
+use Rattle.blocks.specs.File.{entry-of}
+use Rattle.bytes.specs.Bytes.{with-half}
+use Rattle.blocks.specs.Packed.{place-of}
+use Rattle.planfile.proofs.PutLaws.{kept}
+use Rattle.planfile.proofs.EnteredLaws.{entered, Entered, entered-none, entered-more, entered-all, length-entered}
+use Rattle.planfile.proofs.EntryLaws.{entry-in, entry-out, setting-small}
 use Rattle.planfile.proofs.put.put_entries.Statement.{statement}
 use Rattle.planfile.proofs.put.put_entries.Tie as tie
 

@@ -4,17 +4,17 @@ use mathlib.Core.Path.{_≡_}
 use Prim.Native.Nat.{_≤_}
 use lib.ListN.{length}
 use denote.Ref.{now}
-use Rattle.planfile.specs.File.{header}
+use Rattle.blocks.specs.File.{header}
 use Rattle.planfile.proofs.PutLaws.{header-stored, with-sum}
 use borrow.Author.Needs.{needs}
 use Rattle.planfile.proofs.put.put_header.Statement.{statement}
 use Rattle.planfile.proofs.put.put_header.Tie as tie
 use Rattle.planfile.proofs.put.put_header.Reads as reads
-use Rattle.planfile.proofs.bytes.put_eight.Reads as put-eight-reads
-use Rattle.planfile.proofs.bytes.put_four.Reads as put-four-reads
-use Rattle.planfile.proofs.bytes.put_one.Reads as put-one-reads
-use Rattle.planfile.proofs.bytes.put_two.Reads as put-two-reads
-use Rattle.planfile.proofs.bytes.put_zeros.Reads as put-zeros-reads
+use Rattle.bytes.proofs.numbers.put_eight.Reads as put-eight-reads
+use Rattle.bytes.proofs.numbers.put_four.Reads as put-four-reads
+use Rattle.bytes.proofs.numbers.put_one.Reads as put-one-reads
+use Rattle.bytes.proofs.numbers.put_two.Reads as put-two-reads
+use Rattle.bytes.proofs.numbers.put_zeros.Reads as put-zeros-reads
 use Rattle.planfile.proofs.put.put_letters.Reads as put-letters-reads
 use Rattle.planfile.proofs.put.seal.Reads as seal-reads
 use Rattle.planfile.proofs.put.put_header.Lts as lts

@@ -6,8 +6,8 @@ use native.Mathlib.Numerals.{add-one}
 use lib.ListN.{length, getD, take, set, length-set}
 use lib.Seq.{sets, take-suc, length-take-le}
 use denote.Ref.{now}
-use Rattle.planfile.specs.File.{letters}
-use Rattle.planfile.proofs.PartLaws.{sets-snoc}
+use Rattle.blocks.specs.File.{letters}
+use Rattle.laws.proofs.Stores.{sets-snoc}
 use Rattle.planfile.proofs.put.put_letters.Statement.{statement}
 use Rattle.planfile.proofs.put.put_letters.Tie as tie
 

@@ -3,7 +3,7 @@ use mathlib.Core.Path.{ap, _∙_}
 use Prim.Native.Nat.{ℕ, _+_}
 use lib.Seq.{sets}
 use denote.Ref.{now}
-use Rattle.planfile.specs.Bytes.{le}
+use Rattle.bytes.specs.Bytes.{le}
 use borrow.Author.Needs.{needs}
 use Rattle.planfile.proofs.put.seal.Statement.{statement}
 use Rattle.planfile.proofs.put.seal.Tie as tie

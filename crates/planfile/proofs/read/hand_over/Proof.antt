@@ -6,11 +6,10 @@ use native.Mathlib.Nat.{zero-add}
 use lib.ListN.{length, set, length-set}
 use lib.Seq.{sets}
 use denote.Ref.{now}
-use Rattle.planfile.specs.File.{entry-at}
+use Rattle.blocks.specs.File.{entry-at}
 use Rattle.planfile.specs.Reading.{entries}
-use Rattle.planfile.proofs.PartLaws.{sets-snoc}
-use Rattle.planfile.proofs.HalfLaws.{length-entries}
-use Rattle.planfile.proofs.EntryLaws.{entries-snoc}
+use Rattle.laws.proofs.Stores.{sets-snoc}
+use Rattle.planfile.proofs.EntryLaws.{length-entries, entries-snoc}
 use Rattle.planfile.proofs.read.hand_over.Statement.{statement}
 use Rattle.planfile.proofs.read.hand_over.Tie as tie
 

@@ -7,13 +7,14 @@ use lib.Seq.{sets}
 use denote.Ref.{now}
 use borrow.Author.Tests.{ltb-false}
 use Rattle.tables.specs.declared.refusal.Refusal.the-variants as refusal
-use Rattle.planfile.specs.declared.fields.Fields.{Fields}
-use Rattle.planfile.specs.File.{entry-at}
-use Rattle.planfile.specs.Rules.{when}
-use Rattle.planfile.specs.Stages.{ended, why-of}
+use Rattle.rules.specs.declared.Fields.{Fields}
+use Rattle.blocks.specs.File.{entry-at}
+use Rattle.checks.specs.Checks.{when}
+use Rattle.checks.specs.Stages.{ended, why-of}
 use Rattle.planfile.specs.Reading.{fields-of, read-refusal, entries}
-use Rattle.planfile.proofs.CheckLaws.{none-when}
-use Rattle.planfile.proofs.ReadLaws.{at-stop, at-pass, last-stop, last-pass, from-entries, from-room, from-header, from-blocks, all-stages, refused-read, accepted-read, sized, entries-inside, told-entries}
+use Rattle.checks.proofs.CheckLaws.{none-when}
+use Rattle.checks.proofs.StageLaws.{at-stop, at-pass, last-stop, last-pass}
+use Rattle.planfile.proofs.ReadLaws.{from-entries, from-room, from-header, from-blocks, all-stages, refused-read, accepted-read, sized, entries-inside, told-entries}
 use borrow.Author.Needs.{needs}
 use Rattle.planfile.proofs.read.read_plan.Statement.{statement}
 use Rattle.planfile.proofs.read.read_plan.Tie as tie

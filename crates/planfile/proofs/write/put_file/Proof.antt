@@ -8,9 +8,11 @@ use native.Mathlib.Numerals.{add-one}
 use lib.ListN.{length}
 use lib.Seq.{sets, length-sets}
 use denote.Ref.{now}
-use Rattle.planfile.specs.File.{sealed, header, data-block, data-blocks, data-from, entry-of}
-use Rattle.tables.proofs.Stores.{sets-append}
-use Rattle.planfile.proofs.BlockLaws.{length-sealed, length-header, length-data}
+use Rattle.blocks.specs.File.{sealed, header, data-block, data-blocks, data-from, entry-of}
+use Rattle.laws.proofs.Stores.{sets-append}
+use Rattle.blocks.proofs.BlockLaws.{length-sealed}
+use Rattle.blocks.proofs.HeaderLaws.{length-header}
+use Rattle.blocks.proofs.DataLaws.{length-data}
 use Rattle.planfile.proofs.WriteLaws.{data-more}
 use Rattle.planfile.proofs.write.put_file.Statement.{statement}
 use Rattle.planfile.proofs.write.put_file.Tie as tie

@@ -5,7 +5,7 @@ use Prim.Native.Nat.{suc, _+_, _*_}
 use lib.Dec.{ltb}
 use borrow.Author.Tests.{lt-ltb, le-ltb}
 use native.Mathlib.Numerals.{add-one}
-use Rattle.planfile.specs.File.{file-length}
+use Rattle.blocks.specs.File.{file-length}
 use borrow.Author.Needs.{needs}
 use Rattle.planfile.proofs.write.too_short.Statement.{statement}
 use Rattle.planfile.proofs.write.too_short.Tie as tie

@@ -4,10 +4,10 @@ use mathlib.Core.Option.{none}
 use lib.ListN.{length}
 use denote.Ref.{now}
 use Rattle.tables.specs.declared.refusal.Refusal.the-variants as refusal
-use Rattle.planfile.specs.Rules.{when}
-use Rattle.planfile.specs.Stages.{ended, why-of}
+use Rattle.checks.specs.Checks.{when}
+use Rattle.checks.specs.Stages.{ended, why-of}
 use Rattle.planfile.specs.Writing.{write-short, write-refusal}
-use Rattle.planfile.proofs.ReadLaws.{at-stop, at-pass, last-stop, last-pass}
+use Rattle.checks.proofs.StageLaws.{at-stop, at-pass, last-stop, last-pass}
 use Rattle.planfile.proofs.WriteLaws.{from-settings, from-short, write-stages, refused-write, accepted-write, scans-inside, room-inside, settings-small}
 use borrow.Author.Needs.{needs}
 use Rattle.planfile.proofs.write.write_plan.Statement.{statement}

@@ -3,9 +3,10 @@ use native.Mathlib.Omega.{arith}
 use mathlib.Core.Path.{refl, _∙_}
 use Rattle.criteria.proofs.Bound.{at-zero}
 use Rattle.criteria.proofs.Reduce.{average-reduced}
-use Rattle.planner.proofs.SeekLaws.{fit-framed, framed-on, sums-small}
+use Rattle.seek.proofs.SeekLaws.{fit-framed, framed-on, sums-small}
 use Rattle.planner.proofs.PromiseLaws.{finished-given}
-use Rattle.planner.proofs.AverageLaws.{pass-finds, bracket-first, budget-fits, answer-is, finished-small}
+use Rattle.search.proofs.SlopeLaws.{pass-finds}
+use Rattle.planner.proofs.AverageLaws.{bracket-first, budget-fits, answer-is, finished-small}
 use borrow.Author.Needs.{needs}
 use Rattle.planner.proofs.average.average_from.Statement.{statement}
 use Rattle.planner.proofs.average.average_from.Tie as tie

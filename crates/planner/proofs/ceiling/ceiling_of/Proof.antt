@@ -1,8 +1,8 @@
 -- `planner::ceiling::ceiling_of` meets its contract: the least-rate plan under the ceiling, or a second pass that tells 8 from 9. Assumes nothing.
 use native.Mathlib.Omega.{arith}
 use Rattle.tables.proofs.CellLaws.{product-small}
-use Rattle.planner.proofs.CheckLaws.{sound-fit, sound-plan}
-use Rattle.planner.proofs.SeekLaws.{fit-framed, framed-on, open-under, nothing-under}
+use Rattle.checks.proofs.PlanningLaws.{sound-fit, sound-plan}
+use Rattle.seek.proofs.SeekLaws.{fit-framed, framed-on, open-under, nothing-under}
 use Rattle.planner.proofs.PromiseLaws.{values-are, says-none-allowed, says-none-within, says-planned}
 use borrow.Author.Needs.{needs}
 use Rattle.planner.proofs.ceiling.ceiling_of.Statement.{statement}

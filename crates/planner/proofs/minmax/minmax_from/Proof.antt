@@ -1,6 +1,6 @@
 -- `planner::minmax::minmax_from` meets its contract: the least ceiling, and the least-rate plan under it. Assumes nothing.
 use native.Mathlib.Omega.{arith}
-use Rattle.planner.proofs.SeekLaws.{fit-framed, framed-on}
+use Rattle.seek.proofs.SeekLaws.{fit-framed, framed-on}
 use Rattle.planner.proofs.PromiseLaws.{values-are, finished-given}
 use Rattle.planner.proofs.MinmaxLaws.{pass-under, peak-bound, thrifty-fits, minmax-is}
 use borrow.Author.Needs.{needs}

@@ -1,6 +1,6 @@
 -- `planner::minmax::minmax_of` meets its contract: the start, and what follows where the least-rate plan fits. Assumes nothing.
-use Rattle.planner.proofs.CheckLaws.{sound-fit, sound-plan}
-use Rattle.planner.proofs.SeekLaws.{fit-framed}
+use Rattle.checks.proofs.PlanningLaws.{sound-fit, sound-plan}
+use Rattle.seek.proofs.SeekLaws.{fit-framed}
 use Rattle.planner.proofs.PromiseLaws.{started-plan, started-refused, started-given}
 use borrow.Author.Needs.{needs}
 use Rattle.planner.proofs.minmax.minmax_of.Statement.{statement}

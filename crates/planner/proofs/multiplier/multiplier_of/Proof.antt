@@ -1,8 +1,8 @@
 -- `planner::multiplier::multiplier_of` meets its contract. Assumes nothing.
 use native.Mathlib.Omega.{arith}
 use Rattle.tables.proofs.CellLaws.{product-small}
-use Rattle.planner.proofs.CheckLaws.{sound-fit, sound-plan, sound-fourth}
-use Rattle.planner.proofs.SeekLaws.{fit-framed}
+use Rattle.checks.proofs.PlanningLaws.{sound-fit, sound-plan, sound-fourth}
+use Rattle.seek.proofs.SeekLaws.{fit-framed}
 use Rattle.planner.proofs.PromiseLaws.{values-are, says-none-allowed, says-planned, multiplier-in}
 use borrow.Author.Needs.{needs}
 use Rattle.planner.proofs.multiplier.multiplier_of.Statement.{statement}

@@ -5,7 +5,7 @@ use Prim.Native.Nat.{ℕ, _≤_, _+_, _-_}
 use lib.ListN.{length, getD, take, set, length-set}
 use lib.Seq.{sets, take-length}
 use denote.Ref.{now}
-use Rattle.printing.proofs.PutLaws.{copied-more}
+use Rattle.laws.proofs.Stores.{copied-more}
 use Rattle.printing.proofs.put.put.Statement.{statement}
 use Rattle.printing.proofs.put.put.Tie as tie
 

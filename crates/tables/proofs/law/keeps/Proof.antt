@@ -1,6 +1,6 @@
 -- `tables::law::keeps` meets its contract, a number at a time. Assumes nothing.
 use mathlib.Core.Path.{refl}
-use Rattle.tables.proofs.Tests.{up-by-two, down-by-two, no-law}
+use Rattle.tables.proofs.LawLaws.{up-by-two, down-by-two, no-law}
 use borrow.Author.Needs.{needs}
 use Rattle.tables.proofs.law.keeps.Statement.{statement}
 use Rattle.tables.proofs.law.keeps.Tie as tie

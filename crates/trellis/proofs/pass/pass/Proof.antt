@@ -6,8 +6,9 @@ use Prim.Native.Nat.{ℕ, _+_, _-_, _*_, _≤_, _<_}
 use lib.ListN.{length, getD, length-set, getD-replicate}
 use lib.Seq.{getD-set-other}
 use Rattle.tables.proofs.CellLaws.{product-small, square-small, squares-small}
-use Rattle.trellis.specs.Step.{Sixteen, Ready}
-use Rattle.trellis.proofs.SquareLaws.{part}
+use Rattle.trellis.specs.Step.{Sixteen}
+use Rattle.least.specs.Row.{Ready}
+use Rattle.laws.proofs.Lists.{part}
 use Rattle.trellis.proofs.PassLaws.{Done, done-none, done-more, ready, sixteen-zero, square-ends, some-room, pass-none, pass-some}
 use mathlib.Core.List.{[]}
 use Rattle.trellis.proofs.pass.pass.Statement.{statement}

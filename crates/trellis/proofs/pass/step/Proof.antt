@@ -6,7 +6,8 @@ use mathlib.Core.List.{[]}
 use Prim.Native.Nat.{ℕ, _+_, _-_, _≤_, _<_}
 use lib.ListN.{length, getD, length-set}
 use lib.Seq.{getD-set-other}
-use Rattle.trellis.specs.Step.{candidate, BestOf, band-from, band-to}
+use Rattle.least.specs.Row.{candidate, BestOf}
+use Rattle.trellis.specs.Step.{band-from, band-to}
 use Rattle.trellis.proofs.BandLaws.{band-order}
 use Rattle.trellis.proofs.StepLaws.{steps-more}
 use Rattle.trellis.proofs.pass.step.Statement.{statement}

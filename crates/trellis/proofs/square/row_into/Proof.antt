@@ -4,7 +4,7 @@ use borrow.Author.Needs.{needs}
 use mathlib.Core.Path.{_≡_, refl}
 use Prim.Native.Nat.{ℕ, _+_, _-_, _≤_, _<_}
 use lib.ListN.{length, getD, length-set}
-use Rattle.trellis.proofs.ListLaws.{stored-more}
+use Rattle.laws.proofs.Lists.{stored-more}
 use Rattle.trellis.proofs.square.row_into.Statement.{statement}
 use Rattle.trellis.proofs.square.row_into.Tie as tie
 

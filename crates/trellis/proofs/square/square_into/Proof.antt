@@ -6,7 +6,8 @@ use mathlib.Core.List.{[]}
 use Prim.Native.Nat.{ℕ, _+_, _-_, _*_, _≤_, _<_}
 use lib.ListN.{getD}
 use Rattle.trellis.specs.Step.{Sixteen}
-use Rattle.trellis.proofs.SquareLaws.{part, sixteen-more, rows-more}
+use Rattle.laws.proofs.Lists.{part}
+use Rattle.trellis.proofs.SquareLaws.{sixteen-more, rows-more}
 use Rattle.trellis.proofs.square.square_into.Statement.{statement}
 use Rattle.trellis.proofs.square.square_into.Tie as tie
 

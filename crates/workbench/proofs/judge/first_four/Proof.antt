@@ -7,8 +7,9 @@ use native.Mathlib.Omega.{arith}
 use denote.Ref.{now}
 use borrow.Author.Needs.{needs}
 use Rattle.tables.specs.Tables.{cells}
-use Rattle.tables.specs.Planning.{scans-out, settings-out, law-out}
-use Rattle.tables.proofs.Tests.{in-range}
+use Rattle.checks.specs.Planning.{scans-out, settings-out}
+use Rattle.tables.specs.Law.{law-out}
+use Rattle.checks.proofs.RangeLaws.{in-range}
 use Rattle.workbench.specs.Parts.{scans, settings, law, range-refusal}
 use Rattle.workbench.proofs.JudgeLaws.{tested, refuses-scans, refuses-settings, refuses-law, passes}
 use Rattle.workbench.proofs.judge.first_four.Statement.{statement}

@@ -3,7 +3,7 @@ use Prim.Native.Nat.{_≤_}
 use native.Mathlib.Omega.{arith}
 use denote.Ref.{now}
 use borrow.Author.Needs.{needs}
-use Rattle.tables.proofs.Tests.{in-range}
+use Rattle.checks.proofs.RangeLaws.{in-range}
 use Rattle.workbench.proofs.LineLaws.{read-asked, planned-put}
 use Rattle.workbench.proofs.lines.planned.Statement.{statement}
 use Rattle.workbench.proofs.lines.planned.Tie as tie

@@ -1,0 +1,42 @@
+-- Sums of bytes. Assumes nothing.
+use mathlib.Core.Path.{_≡_, ap, _∙_}
+use mathlib.Core.List.{List, [], _∷_, _++_}
+use Prim.Native.Nat.{ℕ, zero, suc, _+_, _*_, _/_, _≤_, _<_}
+use native.Mathlib.Omega.{arith}
+use lib.ListN.{length, getD, drop, replicate, length-append, length-drop}
+use lib.Seq.{take-suc, getD-drop}
+use Rattle.bytes.specs.Bytes.{le, part}
+use Rattle.blocks.specs.Sum.{sum}
+
+-- the sum of two lists of bytes
+sum-append : (a b : List ℕ) → sum (a ++ b) ≡ sum a + sum b
+sum-append [] b = omega arith
+sum-append (x ∷ a) b = omega (arith, sum-append a b)
+
+-- the sum of one byte more
+pub sum-more : (s : List ℕ) (at i : ℕ) → at + i < length s → sum (part at (suc i) s) ≡ sum (part at i s) + getD s (at + i) 0
+sum-more s at i h =
+    ap sum (take-suc (drop at s) i 0 (rw (length-drop at s) (omega arith)))
+    ∙ sum-append (part at i s) (getD (drop at s) i 0 ∷ [])
+    ∙ ap (λ (b : ℕ). sum (part at i s) + (b + 0)) (getD-drop at s i 0)
+    ∙ omega arith
+
+-- a list with no greater sum than so many bytes can have
+pub record Small (l : List ℕ) : Type 0 where
+  pub most : sum l ≤ 255 * length l
+
+infixl 40 _joins_
+-- two such lists make one
+pub _joins_ : {a b : List ℕ} → Small a → Small b → Small (a ++ b)
+_joins_ {a} {b} h g = record { most = omega (arith, h .most, g .most, sum-append a b, length-append a b) }
+
+-- the bytes of a number are bytes
+pub small-le : (k x : ℕ) → Small (le k x)
+unfolding le
+small-le zero x = record { most = omega arith }
+small-le (suc k) x = record { most = omega (arith, small-le k (x / 256) .most) }
+
+-- and so are zeros
+pub small-zeros : (k : ℕ) → Small (replicate k 0)
+small-zeros zero = record { most = omega arith }
+small-zeros (suc k) = record { most = omega (arith, small-zeros k .most) }

@@ -1,0 +1,24 @@
+-- The blocks of a file that is read. Assumes nothing.
+use mathlib.Core.Bool.{Bool, not, _||_}
+use mathlib.Core.Option.{Option}
+use mathlib.Core.List.{List}
+use Prim.Native.Nat.{ℕ, _+_, _*_, _/_}
+use lib.Dec.{eqb}
+use lib.ListN.{length}
+use Rattle.checks.specs.Checks.{first-from}
+use Rattle.bytes.specs.Bytes.{part, number-at}
+use Rattle.blocks.specs.Sum.{sum}
+use Rattle.blocks.specs.File.{block-size}
+
+-- 11: "file length not 1,024 or 1,536"
+abbrev pub length-out : ℕ → Bool
+length-out n = not (eqb n 1024 || eqb n 1536)
+
+-- 12: "a block's number or check is wrong"
+unfoldable pub block-broken : List ℕ → ℕ → Bool
+block-broken file k =
+    not (eqb (number-at (block-size * k) 4 file) k) || not (eqb (number-at (block-size * k + 508) 4 file) (sum (part (block-size * k) 508 file)))
+
+-- "lowest such block", of 2 or 3
+unfoldable pub bad-block : List ℕ → Option ℕ
+bad-block file = first-from (block-broken file) 0 (length file / block-size)

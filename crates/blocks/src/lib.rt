@@ -1,0 +1,3 @@
+// The blocks of a plan file: the number and the check of each, and the entries two to a byte.
+pub mod packed;
+pub mod sound;

@@ -1,0 +1,2 @@
+-- Numbers and half bytes.
+pub mod Bytes

@@ -1,0 +1,5 @@
+pub mod RangeLaws
+pub mod CheckLaws
+pub mod StageLaws
+pub mod PlanningLaws
+pub mod FitLaws

@@ -1,0 +1,40 @@
+// How a stage ends.
+use tables::refusal::Refusal;
+ghost use mathlib.Core.Path.{_≡_};
+ghost use Rattle.checks.specs.Checks.{«or-else», when};
+ghost use Rattle.checks.specs.Stages.{ended, «why-of»};
+
+pub enum Stage {
+    Passed,
+    Stopped(Refusal),
+}
+
+// Why a stage stopped.
+pub fn why(s: Stage) -> Refusal
+    ensures { λ r. ⌜ r ≡ why-of s ⌝ }
+{
+    match s {
+        Stage::Stopped(w) => w,
+        Stage::Passed => Refusal::FileLength,
+    }
+}
+
+// A stage of one test.
+pub fn unless(fails: bool, refusal: Refusal) -> Stage
+    ensures { λ r. ⌜ ended r ≡ when fails refusal ⌝ }
+{
+    if fails {
+        return Stage::Stopped(refusal);
+    }
+    Stage::Passed
+}
+
+// One more test after those before it.
+pub fn then(earlier: Stage, fails: bool, refusal: Refusal) -> Stage
+    ensures { λ r. ⌜ ended r ≡ or-else (ended earlier) (when fails refusal) ⌝ }
+{
+    match earlier {
+        Stage::Stopped(w) => Stage::Stopped(w),
+        Stage::Passed => unless(fails, refusal),
+    }
+}

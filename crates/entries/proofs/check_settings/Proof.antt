@@ -1,0 +1,102 @@
+-- `entries::check_settings` meets its contract: entry after entry. Assumes nothing.
+use native.Mathlib.Omega.{arith}
+use borrow.Author.Needs.{needs}
+use mathlib.Core.Path.{_≡_, sym, ap, _∙_}
+use mathlib.Core.Bool.{false}
+use mathlib.Core.Option.{some}
+use native.Mathlib.Nat.{zero-add}
+use Prim.Native.Nat.{ℕ, _+_, _≤_, _<_, _-_}
+use lib.ListN.{getD}
+use denote.Ref.{now}
+use borrow.Author.Count.{below-more}
+use Rattle.tables.specs.declared.refusal.Refusal.the-variants as refusal
+use Rattle.checks.specs.Checks.{found}
+use Rattle.entries.specs.Entries.{breaks, entry-broken}
+use Rattle.checks.proofs.StageLaws.{first-found}
+use Rattle.checks.proofs.CheckLaws.{none-first}
+use Rattle.entries.proofs.check_settings.Statement.{statement}
+use Rattle.entries.proofs.check_settings.Tie as tie
+
+abbrev Inv-loop : tie.InvT-loop
+Inv-loop list scans settings law before₀ j₀ before j = (j ≤ scans) × ((before ≡ getD list (j - 1) 0) × ((i : ℕ) → i < j → entry-broken scans settings law (λ k. getD list k 0) i ≡ false))
+
+abbrev μ-loop : tie.MeasureT-loop
+μ-loop list scans settings law before₀ j₀ before j = scans - j
+
+-- what was asked of the entry is the rule
+judged : (c : tie.After-entry-wrong Inv-loop μ-loop) →
+    let a = c .before .before .before .before .before .before .before .before .args in
+    c .entry-wrong .result ≡ entry-broken (a .scans) (a .settings) (a .law) (λ k. getD (now (a .list)) k 0) (c .before .before .before .before .loop .j)
+unfolding entry-broken
+judged c =
+    let a = c .before .before .before .before .before .before .before .before .args in
+    let l = c .before .before .before .before .loop in
+    c .entry-wrong .ensures
+    ∙ ap (λ p. breaks (a .scans) (a .settings) (a .law) (l .j) p (c .before .wide2 .result)) (l .inv .1 .0)
+    ∙ ap (breaks (a .scans) (a .settings) (a .law) (l .j) (getD (now (a .list)) (l .j - 1) 0)) (c .before .wide2 .ensures .0)
+
+shared-slice-read-wide : tie.Need-shared-slice-read-wide Inv-loop μ-loop
+shared-slice-read-wide c = search needs
+
+wide-requires : tie.Need-wide-requires Inv-loop μ-loop
+wide-requires c κs = search needs
+
+loop-holds : tie.Need-loop-holds Inv-loop μ-loop
+loop-holds c = (omega arith, (c .wide .ensures .0, λ i h. absurd (omega arith)))
+
+shared-slice-read-wide-2 : tie.Need-shared-slice-read-wide-2 Inv-loop μ-loop
+shared-slice-read-wide-2 c = omega arith
+
+wide-requires-2 : tie.Need-wide-requires-2 Inv-loop μ-loop
+wide-requires-2 c κs = search needs
+
+entry-wrong-requires : tie.Need-entry-wrong-requires Inv-loop μ-loop
+entry-wrong-requires c κs = search needs
+
+returns : tie.Need-returns Inv-loop μ-loop
+returns c =
+    let a = c .before .before .before .before .before .before .before .before .before .args in
+    let l = c .before .before .before .before .before .loop in
+    let bad = entry-broken (a .scans) (a .settings) (a .law) (λ k. getD (now (a .list)) k 0) in
+    sym (ap (found refusal.Entry) (first-found bad 0 (l .j) (a .scans) (λ i h. rw (zero-add i) (l .inv .1 .1 i h)) (omega arith) (rw (zero-add (l .j)) (sym (judged (c .before)) ∙ c .if1 .taken))) ∙ ap (λ n. found refusal.Entry (some n)) (zero-add (l .j)))
+
+add-j : tie.Need-add-j Inv-loop μ-loop
+add-j c = omega arith
+
+loop-less : tie.Need-loop-less Inv-loop μ-loop
+loop-less c = omega arith
+
+loop-again : tie.Need-loop-again Inv-loop μ-loop
+loop-again c =
+    let a = c .before .before .before .before .before .before .before .before .before .args in
+    let l = c .before .before .before .before .before .loop in
+    let e : l .j + 1 - 1 ≡ l .j = omega arith in (
+      omega arith,
+      (
+        c .before .before .wide2 .ensures .0 ∙ ap (λ k. getD (now (a .list)) k 0) (sym e),
+        below-more (λ i. entry-broken (a .scans) (a .settings) (a .law) (λ k. getD (now (a .list)) k 0) i ≡ false) _ (l .inv .1 .1) (sym (judged (c .before)) ∙ c .if1 .left),
+      ),
+    )
+
+returns-2 : tie.Need-returns-2 Inv-loop μ-loop
+returns-2 c =
+    let a = c .before .before .before .before .before .args in
+    sym (ap (found refusal.Entry) (none-first (a .scans) (entry-broken (a .scans) (a .settings) (a .law) (λ k. getD (now (a .list)) k 0)) 0 (λ i h g. c .before .loop .inv .1 .1 i (omega arith))))
+
+pub check-settings-spec : {M : Type 1} → statement M
+check-settings-spec =
+    tie.close
+    (tie.spec
+    Inv-loop
+    μ-loop
+    shared-slice-read-wide
+    wide-requires
+    loop-holds
+    shared-slice-read-wide-2
+    wide-requires-2
+    entry-wrong-requires
+    returns
+    add-j
+    loop-less
+    loop-again
+    returns-2)

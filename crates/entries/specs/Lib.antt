@@ -1,0 +1,2 @@
+-- The rule of an entry.
+pub mod Entries

@@ -1,0 +1,67 @@
+// The rule of an entry, and the first entry that breaks it.
+use blocks::packed::get;
+use bytes::numbers::wide;
+use checks::stage::Stage;
+use tables::law::keeps;
+use tables::refusal::Refusal;
+ghost use mathlib.Core.Path.{_≡_};
+ghost use Prim.Native.Nat.{_*_, _-_, _/_, _≤_, _<_};
+ghost use lib.ListN.{length, getD};
+ghost use Rattle.tables.specs.declared.refusal.Refusal.«the-variants» as refusal;
+ghost use Rattle.blocks.specs.File.{«entry-at»};
+ghost use Rattle.entries.specs.Entries.{breaks, «entry-broken»};
+ghost use Rattle.checks.specs.Checks.{«first-from», found};
+ghost use Rattle.checks.specs.Stages.{ended};
+
+// Entry j is `setting`, and the one before it is `before`.
+fn entry_wrong(scans: u64, settings: u64, law: u64, j: u64, before: u64, setting: u64) -> bool
+    ensures { λ r. ⌜ r ≡ breaks scans settings law j before setting ⌝ }
+{
+    if scans <= j {
+        return setting != 0;
+    }
+    if settings <= setting {
+        return true;
+    }
+    if j == 0 {
+        return false;
+    }
+    !keeps(law, before, setting)
+}
+
+// All entries of a file's data blocks, the fillers too.
+pub fn check_file(file: &[u8], scans: u64, settings: u64, law: u64) -> Stage
+    requires { ⌜ (1024 ≤ length (now file)) × (length (now file) ≤ 1536) ⌝ }
+    ensures { λ r. ⌜ ended r ≡ found refusal.Entry (first-from (entry-broken scans settings law (entry-at (now (file .entry)))) 0 (1008 * (length (now (file .entry)) / 512 - 1))) ⌝ }
+{
+    let count = 1008 * (file.len() / 512 - 1);
+    let mut before = wide(get(file, 0));
+    let mut j = 0;
+    while j < count {
+        let setting = wide(get(file, j));
+        if entry_wrong(scans, settings, law, j as u64, before, setting) {
+            return Stage::Stopped(Refusal::Entry(j as u64));
+        }
+        before = setting;
+        j += 1;
+    }
+    Stage::Passed
+}
+
+// The settings that are to be written.
+pub fn check_settings(list: &[u8], scans: usize, settings: u64, law: u64) -> Stage
+    requires { ⌜ (1 ≤ scans) × ((scans ≤ 1024) × (scans ≤ length (now list))) ⌝ }
+    ensures { λ r. ⌜ ended r ≡ found refusal.Entry (first-from (entry-broken scans settings law (λ j. getD (now (list .entry)) j 0)) 0 scans) ⌝ }
+{
+    let mut before = wide(list[0]);
+    let mut j = 0;
+    while j < scans {
+        let setting = wide(list[j]);
+        if entry_wrong(scans as u64, settings, law, j as u64, before, setting) {
+            return Stage::Stopped(Refusal::Entry(j as u64));
+        }
+        before = setting;
+        j += 1;
+    }
+    Stage::Passed
+}

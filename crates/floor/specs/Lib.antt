@@ -1,0 +1,2 @@
+-- The answer of an average plan.
+pub mod Reduced

@@ -1,0 +1,4 @@
+-- Laws that several crates cite.
+pub mod Tests
+pub mod Lists
+pub mod Stores

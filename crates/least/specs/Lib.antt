@@ -1,0 +1,2 @@
+-- The least of a row of candidates.
+pub mod Row

@@ -1,0 +1,164 @@
+// The least of a row of candidates, and the first that attains it.
+use keys::cost::Amount;
+use keys::cost::Dist;
+use keys::cost::Rate;
+use keys::cost::cost;
+use tables::limits::FORBIDDEN;
+ghost use mathlib.Core.Bool.{cond};
+ghost use mathlib.Core.Path.{_≡_};
+ghost use Prim.Native.Nat.{ℕ, _+_, _≤_, _<_, _^_};
+ghost use lib.ListN.{getD, length};
+ghost use Rattle.keys.specs.OneKey.{wide as most-weight};
+ghost use Rattle.least.specs.Row.{«shut-by», «price-of», candidate, Ready, Joins, RunOf, BestOf};
+
+// No allowed sequence leads to the end: more than any sequence costs, and twice it still fits.
+pub const NO_WAY: u64 = 4611686018427387904;
+
+// What a pass asks of a choice: the weights of its distortion and its rate, and a ceiling over its distortion.
+pub struct Rule {
+    pub a: u32,
+    pub b: u32,
+    pub ceiling: u32,
+}
+
+// The least of some candidates, and the first of them that attains it.
+pub struct Run {
+    pub key: Amount,
+    pub first: usize,
+}
+
+fn wide(x: u32) -> u64
+    ensures { λ r. ⌜ (r ≡ x) × (r < 2 ^ 32) ⌝ }
+{
+    x as u64
+}
+
+fn choose(wins: bool, a: u64, b: u64) -> u64
+    ensures { λ r. ⌜ r ≡ cond wins a b ⌝ }
+{
+    if wins { a } else { b }
+}
+
+fn choose_first(wins: bool, a: usize, b: usize) -> usize
+    ensures { λ r. ⌜ r ≡ cond wins a b ⌝ }
+{
+    if wins { a } else { b }
+}
+
+// A choice that is forbidden, or over the ceiling.
+fn shut(rule: Rule, rate: u32, distortion: u32) -> bool
+    ensures { λ r. ⌜ r ≡ shut-by (rule .ceiling) rate distortion ⌝ }
+{
+    (rate == FORBIDDEN) | (rule.ceiling < distortion)
+}
+
+// What a choice costs. Both arms are computed, so that the loop over a row has no branch.
+fn price(rule: Rule, rate: u32, distortion: u32) -> Amount
+    requires { ⌜ (rule .a < most-weight) × (rule .b < most-weight) ⌝ }
+    ensures { λ r. ⌜ r .0 ≡ price-of rule rate distortion ⌝ }
+{
+    let open = cost(
+        Rate(wide(rate)),
+        Dist(wide(distortion)),
+        wide(rule.b),
+        wide(rule.a),
+    );
+    Amount(choose(shut(rule, rate, distortion), NO_WAY, open.0))
+}
+
+// What each setting from lo up to hi costs from here to the end.
+fn sums<'a>(
+    room: &mut [u64; 16],
+    rates: &'a [u32; 16],
+    distortions: &'a [u32; 16],
+    rule: Rule,
+    keys: &'a [u64; 16],
+    lo: usize,
+    hi: usize,
+)
+    requires { ⌜ (lo ≤ hi) × (hi ≤ 16) ⌝ }
+    requires { ⌜ (rule .a < most-weight) × (rule .b < most-weight) ⌝ }
+    requires { ⌜ Ready hi (now rates) (now distortions) (now keys) × (length (now room) ≡ 16) ⌝ }
+    ensures { λ _. ⌜ length (now (room .exit)) ≡ 16 ⌝ }
+    ensures { λ _. ⌜ ((q : ℕ) → lo ≤ q → q < hi → getD (now (room .exit)) q 0 ≡ candidate rule (now (rates .entry)) (now (distortions .entry)) (now (keys .entry)) q) ⌝ }
+{
+    for q in lo..hi {
+        room[q] = price(rule, rates[q], distortions[q]).0 + keys[q];
+    }
+}
+
+fn single(a: u64, q: usize) -> Run
+    ensures { λ r. ⌜ (r .key .0 ≡ a) × (r .first ≡ q) ⌝ }
+{
+    Run {
+        key: Amount(a),
+        first: q,
+    }
+}
+
+// The least of two runs of candidates, y's right after x's: y wins only where it is less.
+fn join(x: Run, y: Run) -> Run
+    ensures { λ r. ⌜ Joins (x .key .0) (x .first) (y .key .0) (y .first) (r .key .0) (r .first) ⌝ }
+{
+    let wins = y.key.0 < x.key.0;
+    Run {
+        key: Amount(choose(wins, y.key.0, x.key.0)),
+        first: choose_first(wins, y.first, x.first),
+    }
+}
+
+// The least of four, joined beside each other and not one after the other.
+fn four(sums: &[u64; 16], q: usize) -> Run
+    requires { ⌜ q + 4 ≤ 16 ⌝ }
+    ensures { λ r. ⌜ RunOf (λ k. getD (now (sums .entry)) k 0) q (q + 4) (r .key .0) (r .first) ⌝ }
+{
+    let front = join(single(sums[q], q), single(sums[q + 1], q + 1));
+    let back = join(single(sums[q + 2], q + 2), single(sums[q + 3], q + 3));
+    join(front, back)
+}
+
+// Four at a time, so that a turn waits for one comparison of the turn before.
+fn least(sums: &[u64; 16], lo: usize, hi: usize) -> Run
+    requires { ⌜ (lo ≤ hi) × (hi ≤ 16) ⌝ }
+    ensures { λ r. ⌜ BestOf (λ k. getD (now (sums .entry)) k 0) lo hi (r .key .0) (r .first) ⌝ }
+{
+    let mut best = Run {
+        key: Amount(NO_WAY),
+        first: 0,
+    };
+    let mut q = lo;
+    while q + 4 <= hi {
+        best = join(best, four(sums, q));
+        q += 4;
+    }
+    while q < hi {
+        best = join(best, single(sums[q], q));
+        q += 1;
+    }
+    best
+}
+
+// The least of the settings from lo up to hi, with what lies ahead of each.
+pub fn pick<'a>(
+    room: &mut [u64; 16],
+    rates: &'a [u32; 16],
+    distortions: &'a [u32; 16],
+    rule: Rule,
+    keys: &'a [u64; 16],
+    lo: usize,
+    hi: usize,
+) -> Run
+    requires { ⌜ (lo ≤ hi) × (hi ≤ 16) ⌝ }
+    requires { ⌜ (rule .a < most-weight) × (rule .b < most-weight) ⌝ }
+    requires { ⌜ Ready hi (now rates) (now distortions) (now keys) × (length (now room) ≡ 16) ⌝ }
+    ensures { λ r. ⌜ length (now (room .exit)) ≡ 16 ⌝ }
+    ensures { λ r. ⌜ BestOf (candidate rule (now (rates .entry)) (now (distortions .entry)) (now (keys .entry))) lo hi (r .key .0) (r .first) ⌝ }
+{
+    // A run that starts at 0 is the common one, and quicker where the compiler knows its start.
+    if lo == 0 {
+        sums(room, rates, distortions, rule, keys, 0, hi);
+        return least(room, 0, hi);
+    }
+    sums(room, rates, distortions, rule, keys, lo, hi);
+    least(room, lo, hi)
+}

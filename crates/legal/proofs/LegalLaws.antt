@@ -1,0 +1,46 @@
+-- Legal cells: what the two walks find is the lowest illegal cell; there is at most one; and there is one or all are legal. Assumes nothing.
+use mathlib.Core.Path.{_≡_}
+use mathlib.Core.List.{List}
+use Prim.Native.Nat.{ℕ, _≤_, _<_}
+use native.Mathlib.Decide.{decLt}
+use native.Mathlib.Omega.{arith}
+use lib.ListN.{length, getD}
+use Rattle.tables.specs.Legal.{LegalRate, LegalBeside, LegalCell, AllLegal, LowestIllegal}
+
+module _ (rates distortions : List ℕ) where
+  -- what the walks know: the first `end` rates are legal, and the next, if there is one, is not; of these the first k have legal
+  -- distortions, and the next, if there is one, has not
+  pub record Walked (end k : ℕ) : Type 0 where
+    pub rates-within : end ≤ length rates
+    pub rates-before : (j : ℕ) → j < end → LegalRate (getD rates j 0)
+    pub rates-there : end < length rates → LegalRate (getD rates end 0) → ⊥
+    pub within : k ≤ end
+    pub before : (j : ℕ) → j < k → LegalBeside (getD rates j 0) (getD distortions j 0)
+    pub there : k < end → LegalBeside (getD rates k 0) (getD distortions k 0) → ⊥
+
+  pub walked-lowest : {end k : ℕ} → Walked end k → k < length rates → LowestIllegal rates distortions k
+  walked-lowest {end} {k} w h = record {
+    inside = h;
+    illegal = λ l. at l (decLt k end);
+    lowest = λ j g. (w .rates-before j (omega (arith, w .within)), w .before j g);
+  }
+    where
+      at : LegalCell rates distortions k → Dec (k < end) → ⊥
+      at l (yes g) = w .there g (l .1)
+      at l (no g) = let e : k ≡ end = omega (arith, w .within) in w .rates-there (omega arith) (rw (← e) (l .0))
+
+  pub walked-all : {end k : ℕ} → Walked end k → length rates ≤ k → AllLegal rates distortions
+  walked-all w h j g =
+      (w .rates-before j (omega (arith, w .within)), w .before j (omega (arith, w .within)))
+
+  pub lowest-unique : {k k′ : ℕ} → LowestIllegal rates distortions k → LowestIllegal rates distortions k′ → k ≡ k′
+  lowest-unique {k} {k′} p q = by-order (decLt k k′) (decLt k′ k)
+    where
+      by-order : Dec (k < k′) → Dec (k′ < k) → k ≡ k′
+      by-order (yes h) g = absurd (p .illegal (q .lowest k h))
+      by-order (no h) (yes g) = absurd (q .illegal (p .lowest k′ g))
+      by-order (no h) (no g) = omega arith
+
+  -- a table with an illegal cell is not all legal
+  pub not-both : {k : ℕ} → LowestIllegal rates distortions k → AllLegal rates distortions → ⊥
+  not-both {k} p a = p .illegal (a k (p .inside))

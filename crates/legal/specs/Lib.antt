@@ -1,0 +1,2 @@
+-- What the legality check answers.
+pub mod Judged

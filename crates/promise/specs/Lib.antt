@@ -1,0 +1,2 @@
+-- What the planning calls promise.
+pub mod Promise

@@ -1,0 +1,2 @@
+-- Document 01, "Room".
+pub mod Room

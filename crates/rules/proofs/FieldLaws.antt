@@ -1,0 +1,127 @@
+-- What the header rules tell of the fields. Assumes nothing.
+use mathlib.Core.Path.{_≡_, refl}
+use mathlib.Core.Bool.{Bool, true, false, not, _||_, _&&_, cond}
+use mathlib.Core.Option.{none}
+use Prim.Native.Nat.{ℕ, _≤_}
+use native.Mathlib.Omega.{arith}
+use lib.Dec.{eqb, ltb}
+use lib.ListN.{length}
+use borrow.Author.Tests.{eqb-true, ltb-false, not-false}
+use Rattle.criteria.specs.Fraction.{gcd}
+use Rattle.tables.specs.Limits.{most-term, most-total, most-cell}
+use Rattle.checks.specs.Checks.{first-refusal, zero-or-over}
+use Rattle.checks.specs.Planning.{scans-out, settings-out}
+use Rattle.tables.specs.Law.{law-out}
+use Rattle.checks.proofs.RangeLaws.{in-range}
+use Rattle.laws.proofs.Tests.{neither}
+use Rattle.rules.specs.declared.Fields.{Fields}
+use Rattle.rules.specs.declared.Marks.{Marks}
+use Rattle.rules.specs.Rules.{header-rules, kind-out, n-broken, d-broken, rate-broken, peak-broken, floor-broken}
+use Rattle.checks.proofs.CheckLaws.{all-pass}
+
+-- a number that is 0 or 1
+zero-or-one : (x : ℕ) → not (eqb x 0 || eqb x 1) ≡ false → x ≤ 1
+zero-or-one x e = either-way (eqb x 0) (eqb x 1) (eqb-true x 0) (eqb-true x 1) (not-false _ e)
+  where
+    either-way : (a b : Bool) → (a ≡ true → x ≡ 0) → (b ≡ true → x ≡ 1) → (a || b) ≡ true → x ≤ 1
+    either-way true b f g e = omega (arith, f refl)
+    either-way false b f g e = omega (arith, g e)
+
+-- n is a term, whatever the kind
+n-small : (kind n d : ℕ) → n-broken kind n d ≡ false → n ≤ most-term
+unfolding n-broken
+n-small kind n d e = by-kind (eqb kind 0) e
+  where
+    by-kind : (t : Bool) → cond t (ltb most-term n || (not (zero-or-over most-term d) && not (eqb (gcd n d) 1))) (not (eqb n 0)) ≡ false
+        → n ≤ most-term
+    by-kind true e = ltb-false most-term n (neither _ _ e .0)
+    by-kind false e = omega (arith, eqb-true n 0 (not-false _ e))
+
+-- and so is d
+d-small : (kind d : ℕ) → d-broken kind d ≡ false → d ≤ most-term
+unfolding d-broken
+d-small kind d e = by-kind (eqb kind 0) e
+  where
+    by-kind : (t : Bool) → cond t (zero-or-over most-term d) (not (eqb d 0)) ≡ false → d ≤ most-term
+    by-kind true e = in-range e .1
+    by-kind false e = omega (arith, eqb-true d 0 (not-false _ e))
+
+-- the floor is at most the distortion, or 0
+floor-small : (kind floor distortion : ℕ) → floor-broken kind floor distortion ≡ false → floor ≤ distortion
+floor-small kind floor distortion e = by-kind (eqb kind 0) e
+  where
+    by-kind : (t : Bool) → cond t (ltb distortion floor) (not (eqb floor 0)) ≡ false → floor ≤ distortion
+    by-kind true e = ltb-false distortion floor e
+    by-kind false e = omega (arith, eqb-true floor 0 (not-false _ e))
+
+-- every rule of the header is rules-hold
+pub record RulesHold (m : Marks) (f : Fields) : Type 0 where
+  pub letters : m .letters ≡ false
+  pub scans : (scans-out (f .scans) || m .length) ≡ false
+  pub settings : settings-out (f .settings) ≡ false
+  pub law : law-out (f .law) ≡ false
+  pub kind : kind-out (f .kind) ≡ false
+  pub run-13 : m .run_13 ≡ false
+  pub n : n-broken (f .kind) (f .n) (f .d) ≡ false
+  pub d : d-broken (f .kind) (f .d) ≡ false
+  pub rate : rate-broken (f .rate .0) (f .budget) ≡ false
+  pub distortion : ltb most-total (f .distortion .0) ≡ false
+  pub peak : peak-broken (f .peak) (f .distortion .0) ≡ false
+  pub floor : floor-broken (f .kind) (f .floor .0) (f .distortion .0) ≡ false
+  pub run-48 : m .run_48 ≡ false
+
+-- where the header rules give no refusal, each is rules-hold
+pub rules-hold : (m : Marks) (f : Fields) → first-refusal (header-rules m f) ≡ none → RulesHold m f
+rules-hold m f e =
+    let p = all-pass (header-rules m f) e in
+    let q = p .1 .1 .1 .1 .1 .1 in
+    record {
+      letters = p .0;
+      scans = p .1 .0;
+      settings = p .1 .1 .0;
+      law = p .1 .1 .1 .0;
+      kind = p .1 .1 .1 .1 .0;
+      run-13 = p .1 .1 .1 .1 .1 .0;
+      n = q .0;
+      d = q .1 .0;
+      rate = q .1 .1 .0;
+      distortion = q .1 .1 .1 .0;
+      peak = q .1 .1 .1 .1 .0;
+      floor = q .1 .1 .1 .1 .1 .0;
+      run-48 = q .1 .1 .1 .1 .1 .1 .0;
+    }
+
+-- and where each is rules-hold, they give none
+pub rules-pass : (m : Marks) (f : Fields) → RulesHold m f → first-refusal (header-rules m f) ≡ none
+rules-pass m f k =
+    rw (k .letters, k .scans, k .settings, k .law, k .kind, k .run-13, k .n, k .d, k .rate, k .distortion, k .peak, k .floor, k .run-48)
+
+-- the limits of the fields
+pub record Limited (f : Fields) : Type 0 where
+  pub scans : f .scans ≤ 1024
+  pub settings : f .settings ≤ 16
+  pub law : f .law ≤ 1
+  pub kind : f .kind ≤ 1
+  pub n : f .n ≤ most-term
+  pub d : f .d ≤ most-term
+  pub rate : f .rate .0 ≤ most-total
+  pub distortion : f .distortion .0 ≤ most-total
+  pub peak : f .peak ≤ most-cell
+  pub floor : f .floor .0 ≤ most-total
+
+-- fields that keep their rules keep within the limits
+pub limited : (m : Marks) (f : Fields) → RulesHold m f → Limited f
+limited m f k =
+    let total : f .distortion .0 ≤ most-total = ltb-false most-total (f .distortion .0) (k .distortion) in
+    record {
+      scans = in-range (neither (scans-out (f .scans)) (m .length) (k .scans) .0) .1;
+      settings = in-range (k .settings) .1;
+      law = zero-or-one (f .law) (k .law);
+      kind = zero-or-one (f .kind) (k .kind);
+      n = n-small (f .kind) (f .n) (f .d) (k .n);
+      d = d-small (f .kind) (f .d) (k .d);
+      rate = ltb-false most-total (f .rate .0) (neither _ _ (k .rate) .0);
+      distortion = total;
+      peak = ltb-false most-cell (f .peak) (neither _ _ (k .peak) .0);
+      floor = omega (arith, floor-small (f .kind) (f .floor .0) (f .distortion .0) (k .floor), total);
+    }

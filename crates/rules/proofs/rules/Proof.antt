@@ -1,0 +1,132 @@
+-- `rules::rules` meets its contract: the tests in byte order. Assumes nothing.
+use mathlib.Core.Path.{_≡_, refl, ap, _∙_}
+use mathlib.Core.Bool.{_||_}
+use mathlib.Core.Option.{none}
+use mathlib.Core.List.{[]}
+use lib.ListN.{take}
+use Rattle.tables.specs.declared.refusal.Refusal.the-variants as refusal
+use lib.Dec.{ltb}
+use Rattle.tables.specs.Limits.{most-total}
+use Rattle.checks.specs.Checks.{first-refusal}
+use Rattle.rules.specs.Rules.{header-rules}
+use Rattle.checks.specs.Stages.{ended}
+use Rattle.checks.proofs.CheckLaws.{one-more}
+use borrow.Author.Needs.{needs}
+use Rattle.rules.proofs.rules.Statement.{statement}
+use Rattle.rules.proofs.rules.Tie as tie
+
+unless-requires : tie.Need-unless-requires
+unless-requires c κs = search needs
+
+outside-requires : tie.Need-outside-requires
+outside-requires c κs = search needs
+
+either-of-requires : tie.Need-either-of-requires
+either-of-requires c κs = search needs
+
+then-requires : tie.Need-then-requires
+then-requires c κs = search needs
+
+outside-requires-2 : tie.Need-outside-requires-2
+outside-requires-2 c κs = search needs
+
+then-requires-2 : tie.Need-then-requires-2
+then-requires-2 c κs = search needs
+
+past-one-requires : tie.Need-past-one-requires
+past-one-requires c κs = search needs
+
+then-requires-3 : tie.Need-then-requires-3
+then-requires-3 c κs = search needs
+
+past-one-requires-2 : tie.Need-past-one-requires-2
+past-one-requires-2 c κs = search needs
+
+then-requires-4 : tie.Need-then-requires-4
+then-requires-4 c κs = search needs
+
+then-requires-5 : tie.Need-then-requires-5
+then-requires-5 c κs = search needs
+
+n-wrong-requires : tie.Need-n-wrong-requires
+n-wrong-requires c κs = search needs
+
+then-requires-6 : tie.Need-then-requires-6
+then-requires-6 c κs = search needs
+
+d-wrong-requires : tie.Need-d-wrong-requires
+d-wrong-requires c κs = search needs
+
+then-requires-7 : tie.Need-then-requires-7
+then-requires-7 c κs = search needs
+
+rate-wrong-requires : tie.Need-rate-wrong-requires
+rate-wrong-requires c κs = search needs
+
+then-requires-8 : tie.Need-then-requires-8
+then-requires-8 c κs = search needs
+
+then-requires-9 : tie.Need-then-requires-9
+then-requires-9 c κs = search needs
+
+peak-wrong-requires : tie.Need-peak-wrong-requires
+peak-wrong-requires c κs = search needs
+
+then-requires-10 : tie.Need-then-requires-10
+then-requires-10 c κs = search needs
+
+floor-wrong-requires : tie.Need-floor-wrong-requires
+floor-wrong-requires c κs = search needs
+
+then-requires-11 : tie.Need-then-requires-11
+then-requires-11 c κs = search needs
+
+then-requires-12 : tie.Need-then-requires-12
+then-requires-12 c κs = search needs
+
+returns : tie.Need-returns
+returns c =
+    let a = c .before .before .before .before .before .before .before .before .before .before .before .before .before .before .before .before .before .before .before .before .before .before .before .before .args in
+    let R = header-rules (a .m) (a .f) in
+    let e1 : ended (c .before .before .before .before .before .before .before .before .before .before .before .before .before .before .before .before .before .before .before .before .before .before .before .unless .result) ≡ first-refusal (take 1 R) = one-more [] (refusal.Header 4) (a .m .letters) {o = none} refl (c .before .before .before .before .before .before .before .before .before .before .before .before .before .before .before .before .before .before .before .before .before .before .before .unless .ensures) refl in
+    let e2 : ended (c .before .before .before .before .before .before .before .before .before .before .before .before .before .before .before .before .before .before .before .before .then .result) ≡ first-refusal (take 2 R) = one-more (take 1 R) (refusal.Header 8) (c .before .before .before .before .before .before .before .before .before .before .before .before .before .before .before .before .before .before .before .before .before .either-of .result) e1 (c .before .before .before .before .before .before .before .before .before .before .before .before .before .before .before .before .before .before .before .before .then .ensures) (c .before .before .before .before .before .before .before .before .before .before .before .before .before .before .before .before .before .before .before .before .before .either-of .ensures ∙ ap (λ t. t || c .before .before .before .before .before .before .before .before .before .before .before .before .before .before .before .before .before .before .before .before .before .before .before .before .args .m .length) (c .before .before .before .before .before .before .before .before .before .before .before .before .before .before .before .before .before .before .before .before .before .before .outside .ensures)) in
+    let e3 : ended (c .before .before .before .before .before .before .before .before .before .before .before .before .before .before .before .before .before .before .then2 .result) ≡ first-refusal (take 3 R) = one-more (take 2 R) (refusal.Header 10) (c .before .before .before .before .before .before .before .before .before .before .before .before .before .before .before .before .before .before .before .outside2 .result) e2 (c .before .before .before .before .before .before .before .before .before .before .before .before .before .before .before .before .before .before .then2 .ensures) (c .before .before .before .before .before .before .before .before .before .before .before .before .before .before .before .before .before .before .before .outside2 .ensures) in
+    let e4 : ended (c .before .before .before .before .before .before .before .before .before .before .before .before .before .before .before .before .then3 .result) ≡ first-refusal (take 4 R) = one-more (take 3 R) (refusal.Header 11) (c .before .before .before .before .before .before .before .before .before .before .before .before .before .before .before .before .before .past-one .result) e3 (c .before .before .before .before .before .before .before .before .before .before .before .before .before .before .before .before .then3 .ensures) (c .before .before .before .before .before .before .before .before .before .before .before .before .before .before .before .before .before .past-one .ensures .0) in
+    let e5 : ended (c .before .before .before .before .before .before .before .before .before .before .before .before .before .before .then4 .result) ≡ first-refusal (take 5 R) = one-more (take 4 R) (refusal.Header 12) (c .before .before .before .before .before .before .before .before .before .before .before .before .before .before .before .past-one2 .result) e4 (c .before .before .before .before .before .before .before .before .before .before .before .before .before .before .then4 .ensures) (c .before .before .before .before .before .before .before .before .before .before .before .before .before .before .before .past-one2 .ensures .1) in
+    let e6 : ended (c .before .before .before .before .before .before .before .before .before .before .before .before .before .then5 .result) ≡ first-refusal (take 6 R) = one-more (take 5 R) (refusal.Header 13) (a .m .run_13) e5 (c .before .before .before .before .before .before .before .before .before .before .before .before .before .then5 .ensures) (refl) in
+    let e7 : ended (c .before .before .before .before .before .before .before .before .before .before .before .then6 .result) ≡ first-refusal (take 7 R) = one-more (take 6 R) (refusal.Header 24) (c .before .before .before .before .before .before .before .before .before .before .before .before .n-wrong .result) e6 (c .before .before .before .before .before .before .before .before .before .before .before .then6 .ensures) (c .before .before .before .before .before .before .before .before .before .before .before .before .n-wrong .ensures) in
+    let e8 : ended (c .before .before .before .before .before .before .before .before .before .then7 .result) ≡ first-refusal (take 8 R) = one-more (take 7 R) (refusal.Header 28) (c .before .before .before .before .before .before .before .before .before .before .d-wrong .result) e7 (c .before .before .before .before .before .before .before .before .before .then7 .ensures) (c .before .before .before .before .before .before .before .before .before .before .d-wrong .ensures) in
+    let e9 : ended (c .before .before .before .before .before .before .before .then8 .result) ≡ first-refusal (take 9 R) = one-more (take 8 R) (refusal.Header 32) (c .before .before .before .before .before .before .before .before .rate-wrong .result) e8 (c .before .before .before .before .before .before .before .then8 .ensures) (c .before .before .before .before .before .before .before .before .rate-wrong .ensures) in
+    let e10 : ended (c .before .before .before .before .before .then9 .result) ≡ first-refusal (take 10 R) = one-more (take 9 R) (refusal.Header 36) (ltb most-total (a .f .distortion .0)) e9 (c .before .before .before .before .before .then9 .ensures) (refl) in
+    let e11 : ended (c .before .before .before .then10 .result) ≡ first-refusal (take 11 R) = one-more (take 10 R) (refusal.Header 40) (c .before .before .before .before .peak-wrong .result) e10 (c .before .before .before .then10 .ensures) (c .before .before .before .before .peak-wrong .ensures) in
+    let e12 : ended (c .before .then11 .result) ≡ first-refusal (take 12 R) = one-more (take 11 R) (refusal.Header 44) (c .before .before .floor-wrong .result) e11 (c .before .then11 .ensures) (c .before .before .floor-wrong .ensures) in
+    one-more (take 12 R) (refusal.Header 48) (a .m .run_48) e12 (c .then12 .ensures) (refl)
+
+pub rules-spec : {M : Type 1} → statement M
+rules-spec =
+    tie.close
+    (tie.spec
+    unless-requires
+    outside-requires
+    either-of-requires
+    then-requires
+    outside-requires-2
+    then-requires-2
+    past-one-requires
+    then-requires-3
+    past-one-requires-2
+    then-requires-4
+    then-requires-5
+    n-wrong-requires
+    then-requires-6
+    d-wrong-requires
+    then-requires-7
+    rate-wrong-requires
+    then-requires-8
+    then-requires-9
+    peak-wrong-requires
+    then-requires-10
+    floor-wrong-requires
+    then-requires-11
+    then-requires-12
+    returns)

@@ -1,0 +1,2 @@
+-- The rules of the fields.
+pub mod Rules

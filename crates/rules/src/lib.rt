@@ -1,0 +1,149 @@
+// What a plan file says of its plan beside the settings, and the rules of these fields, each charged to its byte.
+use checks::range::outside;
+use checks::stage::Stage;
+use checks::stage::then;
+use checks::stage::unless;
+use keys::cost::Dist;
+use keys::cost::Rate;
+use tables::common::common;
+use tables::limits::MOST_SCANS;
+use tables::limits::MOST_SETTINGS;
+use tables::limits::MOST_TERM;
+use tables::limits::MOST_TOTAL;
+use tables::refusal::Refusal;
+ghost use mathlib.Core.Path.{_≡_};
+ghost use mathlib.Core.Bool.{_||_};
+ghost use Rattle.checks.specs.Checks.{«first-refusal»};
+ghost use Rattle.tables.specs.Law.{«law-out»};
+ghost use Rattle.rules.specs.Rules.{«header-rules», «kind-out», «n-broken», «d-broken», «rate-broken», «peak-broken», «floor-broken»};
+ghost use Rattle.checks.specs.Stages.{ended};
+
+pub struct Fields {
+    pub scans: u64,
+    pub settings: u64,
+    pub law: u64,
+    // 0 average, 1 minmax
+    pub kind: u64,
+    pub budget: u64,
+    pub n: u64,
+    pub d: u64,
+    pub rate: Rate,
+    pub distortion: Dist,
+    pub peak: u64,
+    pub floor: Dist,
+}
+
+// What block 0 shows beside its fields: other letters, another length than N's, a run of zeros that is none.
+pub struct Marks {
+    pub letters: bool,
+    pub length: bool,
+    pub run_13: bool,
+    pub run_48: bool,
+}
+
+const MOST_PEAK: u64 = 1048575;
+
+// Neither 0 nor 1: no law, and no kind.
+fn past_one(x: u64) -> bool
+    ensures { λ r. ⌜ (r ≡ law-out x) × (r ≡ kind-out x) ⌝ }
+{
+    if x == 0 {
+        return false;
+    }
+    x != 1
+}
+
+fn either_of(a: bool, b: bool) -> bool
+    ensures { λ r. ⌜ r ≡ (a || b) ⌝ }
+{
+    if a {
+        return true;
+    }
+    b
+}
+
+fn n_wrong(kind: u64, n: u64, d: u64) -> bool
+    ensures { λ r. ⌜ r ≡ n-broken kind n d ⌝ }
+{
+    if kind != 0 {
+        return n != 0;
+    }
+    if MOST_TERM < n {
+        return true;
+    }
+    if outside(MOST_TERM, d) {
+        return false;
+    }
+    common(n, d) != 1
+}
+
+fn d_wrong(kind: u64, d: u64) -> bool
+    ensures { λ r. ⌜ r ≡ d-broken kind d ⌝ }
+{
+    if kind != 0 {
+        return d != 0;
+    }
+    outside(MOST_TERM, d)
+}
+
+fn rate_wrong(rate: u64, budget: u64) -> bool
+    ensures { λ r. ⌜ r ≡ rate-broken rate budget ⌝ }
+{
+    if MOST_TOTAL < rate {
+        return true;
+    }
+    budget < rate
+}
+
+fn peak_wrong(peak: u64, distortion: u64) -> bool
+    ensures { λ r. ⌜ r ≡ peak-broken peak distortion ⌝ }
+{
+    if MOST_PEAK < peak {
+        return true;
+    }
+    distortion < peak
+}
+
+fn floor_wrong(kind: u64, floor: u64, distortion: u64) -> bool
+    ensures { λ r. ⌜ r ≡ floor-broken kind floor distortion ⌝ }
+{
+    if kind != 0 {
+        return floor != 0;
+    }
+    distortion < floor
+}
+
+// The first field in byte order that breaks its rule.
+pub fn rules(m: Marks, f: Fields) -> Stage
+    ensures { λ r. ⌜ ended r ≡ first-refusal (header-rules m f) ⌝ }
+{
+    let letters = unless(m.letters, Refusal::Header(4));
+    let scans = then(
+        letters,
+        either_of(outside(MOST_SCANS, f.scans), m.length),
+        Refusal::Header(8),
+    );
+    let settings = then(
+        scans,
+        outside(MOST_SETTINGS, f.settings),
+        Refusal::Header(10),
+    );
+    let law = then(settings, past_one(f.law), Refusal::Header(11));
+    let kind = then(law, past_one(f.kind), Refusal::Header(12));
+    let run_13 = then(kind, m.run_13, Refusal::Header(13));
+    let n = then(run_13, n_wrong(f.kind, f.n, f.d), Refusal::Header(24));
+    let d = then(n, d_wrong(f.kind, f.d), Refusal::Header(28));
+    let rate = then(d, rate_wrong(f.rate.0, f.budget), Refusal::Header(32));
+    let distortion = then(rate, MOST_TOTAL < f.distortion.0, Refusal::Header(36));
+    let peak = then(
+        distortion,
+        peak_wrong(f.peak, f.distortion.0),
+        Refusal::Header(40),
+    );
+    let floor = then(
+        peak,
+        floor_wrong(f.kind, f.floor.0, f.distortion.0),
+        Refusal::Header(44),
+    );
+    then(floor, m.run_48, Refusal::Header(48))
+}

@@ -1,0 +1,2 @@
+-- What the searches leave.
+pub mod Search

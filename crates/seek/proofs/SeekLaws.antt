@@ -1,0 +1,118 @@
+-- What a pass finds, in the words of the criteria: one key stands for two, and the sequences of a pass are those under its ceiling.
+-- Assumes nothing.
+use mathlib.Core.Path.{_≡_, refl, ap}
+use mathlib.Core.Bool.{Bool}
+use mathlib.Core.List.{List, [], _∷_, _++_}
+use Prim.Native.Nat.{ℕ, suc, _+_, _≤_, _<_}
+use native.Mathlib.Omega.{arith}
+use lib.ListN.{length, drop, replicate, length-drop}
+use lib.Seq.{ext-getD, getD-drop}
+use Rattle.criteria.specs.Choice.{Problem, UnderCeiling, InBudget, Ceiling, NoneWithin}
+use Rattle.criteria.specs.Passes.{Thriftiest}
+use Rattle.tables.specs.Limits.{most-cell, most-total}
+use Rattle.tables.specs.Series.{Series, Kept, largest}
+use Rattle.tables.specs.Tables.{Table, table, series, planning}
+use Rattle.tables.proofs.Totals.{Small, table-small, rate-small, distortion-small, peak-small}
+use Rattle.criteria.proofs.Agree.{best-same}
+use Rattle.criteria.proofs.Order.{then-le}
+use Rattle.keys.specs.OneKey.{Least, Weighed, rate-first}
+use Rattle.keys.proofs.OneKeyLaws.{multiplier-by-key, ceiling-by-key, rates-first}
+use Rattle.least.specs.declared.Rule.{Rule}
+use Rattle.trellis.specs.Chosen.{chosen}
+use Rattle.walk.specs.Walked.{TotalsOf}
+use Rattle.walk.specs.declared.Totals.{Totals}
+use Rattle.checks.specs.Fit.{Fit}
+use Rattle.trellis.specs.Pass.{under, asked, Passed}
+use Rattle.checks.proofs.FitLaws.{fit-legal}
+use Rattle.seek.specs.Passes.{no-ceiling, Framed, ThriftyPass, MultiplierPass, ThriftyTotals}
+
+-- a sequence of steps under a ceiling has its peak under it, and the other way round
+under-peak : (S : Series) (X i p : ℕ) (s : List ℕ) → Kept (under X S) i p s → Kept S i p s × (largest (S .height) i p s ≤ X)
+under-peak S X i p [] k = (tt, omega arith)
+under-peak S X i p (q ∷ s) k = let r = under-peak S X (suc i) q s (k .2) in ((k .0, k .1 .0, r .0), omega (arith, r .1, k .1 .1))
+
+peak-under : (S : Series) (X i p : ℕ) (s : List ℕ) → Kept S i p s → largest (S .height) i p s ≤ X → Kept (under X S) i p s
+peak-under S X i p [] k h = tt
+peak-under S X i p (q ∷ s) k h = (k .0, (k .1, omega arith), peak-under S X (suc i) q s (k .2) (omega arith))
+
+-- the least of the same candidates
+least-same : {C C′ : List ℕ → Type 0} {k : List ℕ → ℕ} {s : List ℕ} → ((t : List ℕ) → C t → C′ t) → ((t : List ℕ) → C′ t → C t) → Least C k s → Least C′ k s
+least-same {s = s} to from l = record { one = to s (l .one); ahead = λ t c. l .ahead t (from t c) }
+
+module _ {N Q law : ℕ} {rates distortions : List ℕ} {room : ℕ} (fit : Fit N Q law rates distortions room) where
+  abbrev T : Table
+  T = table N Q law rates distortions
+
+  abbrev P : Problem
+  P = planning T
+
+  small : Small (series T)
+  small = table-small T (fit-legal fit)
+
+  pub sums-small : (t : List ℕ) → P .allowed t → (P .distortion t ≤ most-total) × (P .rate t ≤ most-total)
+  sums-small t a = (distortion-small (series T) small t a, rate-small (series T) small t a)
+
+  pub peak-fits : (t : List ℕ) → P .allowed t → P .peak t ≤ most-cell
+  peak-fits t a = peak-small (series T) small t a
+
+  asked-under : (X : ℕ) (t : List ℕ) → asked N Q law rates distortions X .allowed t → UnderCeiling P X t
+  asked-under X t a = let r = under-peak (series T) X 0 0 t (a .1) in ((a .0, r .0), r .1)
+
+  under-asked : (X : ℕ) (t : List ℕ) → UnderCeiling P X t → asked N Q law rates distortions X .allowed t
+  under-asked X t w = (w .0 .0, peak-under (series T) X 0 0 t (w .0 .1) (w .1))
+
+  -- everything allowed is under no ceiling
+  pub open-under : (t : List ℕ) → P .allowed t → UnderCeiling P no-ceiling t
+  open-under t a = (a, omega (arith, peak-fits t a))
+
+  pub thrifty-passed : {rule : Rule} {before after : List ℕ} {found : Bool} → rule .a ≡ 1 → rule .b ≡ rate-first →
+      Passed (asked N Q law rates distortions (rule .ceiling)) N Q rule before after found → ThriftyPass P N Q (rule .ceiling) before after found
+  thrifty-passed {rule} {before} {after} ea eb p = record {
+    none = λ e t w. p .none e t (under-asked (rule .ceiling) t w);
+    some = λ e. ceiling-by-key P most-total sums-small (rule .ceiling) 1 rate-first rates-first (chosen Q N after) .0
+        (rw (ea, eb) at (least-same (asked-under (rule .ceiling)) (under-asked (rule .ceiling)) (p .some e)));
+    framed = record { long = p .long; rest = p .rest };
+  }
+
+  pub multiplier-passed : {rule : Rule} {before after : List ℕ} {found : Bool} (n d : ℕ) → Weighed n d (rule .a) (rule .b) → rule .ceiling ≡ no-ceiling →
+      Passed (asked N Q law rates distortions (rule .ceiling)) N Q rule before after found → MultiplierPass P N Q n d before after found
+  multiplier-passed {rule} {before} {after} n d w e p = record {
+    none = λ f t a. p .none f t (under-asked (rule .ceiling) t (rw e (open-under t a)));
+    some = λ f. multiplier-by-key P most-total sums-small n d (rule .a) (rule .b) (w .near) (chosen Q N after) .0
+        (least-same (λ t a. asked-under (rule .ceiling) t a .0) (λ t a. under-asked (rule .ceiling) t (rw e (open-under t a))) (p .some f));
+    framed = record { long = p .long; rest = p .rest };
+  }
+
+  -- with no ceiling the least-rate plan is the thriftiest
+  pub open-thriftiest : {s : List ℕ} → Ceiling P no-ceiling s → Thriftiest P s
+  open-thriftiest c = best-same (λ t w. w .0) open-under (λ t w. refl) (λ t w. refl) c
+
+-- refusal 9 of a ceiling call: something is allowed, and nothing is under X
+pub nothing-under : {P : Problem} {X Y : ℕ} {s : List ℕ} → Ceiling P Y s → ((t : List ℕ) → UnderCeiling P X t → ⊥) → NoneWithin P (UnderCeiling P X)
+nothing-under {s = s} c none = record { exist = (s, c .one .0); none-within = none }
+
+-- .. and of a call with a budget: the least-rate plan does not fit
+pub nothing-fits : {P : Problem} {B R : ℕ} {s : List ℕ} → Thriftiest P s → R ≡ P .rate s → B < R → NoneWithin P (InBudget P B)
+nothing-fits {s = s} c e h = record { exist = (s, c .one); none-within = λ t w. omega (arith, then-le (c .ahead t (w .0)), w .1) }
+
+-- .. or it does
+pub thrifty-totals : {P : Problem} {B : ℕ} {s : List ℕ} {t : Totals} → Thriftiest P s → TotalsOf P s t → t .rate .0 ≤ B → ThriftyTotals P B t
+thrifty-totals {s = s} c h g = record { plan = s; thriftiest = c; totals = h; fits = omega (arith, h .rate) }
+
+-- frames, one after another
+pub framed-on : {k : ℕ} {a b c : List ℕ} → Framed k a b → Framed k b c → Framed k a c
+framed-on f g = record { long = cc (f .long, g .long); rest = λ i h. cc (f .rest i h, g .rest i h) }
+
+pub framed-none : {k : ℕ} (a : List ℕ) → Framed k a a
+framed-none a = record { long = refl; rest = λ i h. refl }
+
+-- wiping what a pass left is wiping what was there before it
+pub wiped-same : {k : ℕ} {before after : List ℕ} → Framed k before after → replicate k 0 ++ drop k after ≡ replicate k 0 ++ drop k before
+wiped-same {k} {before} {after} f = ap (λ (l : List ℕ). replicate k 0 ++ l) (ext-getD 0 (drop k after) (drop k before)
+    (rw (length-drop k after, length-drop k before, f .long))
+    (λ i h. rw (getD-drop k after i 0, getD-drop k before i 0) (f .rest (k + i) (omega arith))))
+
+-- scratch is as long after a pass as before it
+pub fit-framed : {N Q law k : ℕ} {rates distortions before after : List ℕ} → Fit N Q law rates distortions (length before) → Framed k before after →
+    Fit N Q law rates distortions (length after)
+fit-framed fit f = rw (f .long) fit

@@ -1,0 +1,3 @@
+-- What goes back to a host.
+pub mod Told
+pub mod Parts

@@ -1,0 +1,166 @@
+-- `walk::total_up` meets its contract. The loop's invariant: t has the scans before i, and the choices from scan i on lead to the
+-- rest of the sequence. Assumes nothing.
+use mathlib.Core.Path.{_≡_, refl, _∙_}
+use mathlib.Core.List.{_∷_}
+use Prim.Native.Nat.{suc, _+_, _-_, _*_, _≤_, _<_}
+use native.Mathlib.Numerals.{add-one}
+use native.Mathlib.Omega.{arith}
+use lib.ListN.{length, getD}
+use borrow.Author.Needs.{needs}
+use Rattle.tables.specs.Tables.{cell, table, series}
+use Rattle.tables.proofs.Totals.{table-small}
+use Rattle.trellis.specs.Chosen.{choice, walk, chosen}
+use Rattle.laws.proofs.Lists.{part}
+use Rattle.walk.proofs.WalkLaws.{Along, along-none, along-all, along-more, along-small}
+use Rattle.tables.proofs.CellLaws.{cell-inside}
+use Rattle.checks.proofs.FitLaws.{fit-legal}
+use Rattle.walk.proofs.total_up.Statement.{statement}
+use Rattle.walk.proofs.total_up.Tie as tie
+
+abbrev Inv-loop : tie.InvT-loop
+Inv-loop scans settings law rates distortions scratch t₀ p₀ i₀ t p i =
+    (i ≤ scans) × (p < settings) ×
+    Along (series (table scans settings law rates distortions)) (chosen settings scans scratch) t i p
+    (walk (choice settings scratch) (scans - i) i p)
+
+abbrev μ-loop : tie.MeasureT-loop
+μ-loop scans settings law rates distortions scratch t₀ p₀ i₀ t p i = scans - i
+
+-- what is left at scan i, its choice first
+left-at : (c : tie.In-loop Inv-loop μ-loop) →
+    let a = c .before .before .before .before .before .args in
+    let l = c .before .loop in
+    let ch = choice (a .settings) (a .scratch .now) in
+    Along (series (table (a .scans) (a .settings) (a .law) (a .rates .now) (a .distortions .now)))
+    (chosen (a .settings) (a .scans) (a .scratch .now)) (l .t) (l .i) (l .p)
+    (ch (l .i) (l .p) ∷ walk ch (a .scans - suc (l .i)) (suc (l .i)) (ch (l .i) (l .p)))
+left-at c =
+    let a = c .before .before .before .before .before .args in
+    let l = c .before .loop in
+    let e : a .scans - l .i ≡ suc (a .scans - suc (l .i)) = omega arith in
+    rw e at (l .inv .2)
+
+loop-holds : tie.Need-loop-holds Inv-loop μ-loop
+loop-holds c =
+    let s = c .before .before .before in
+    let e : s .args .scans - 0 ≡ s .args .scans = omega arith in
+    (omega arith, s .pre .0 .some-settings, rw e (along-none _ _ _ (s .pre .1 .1) refl refl refl))
+
+-- the choice stands in scratch
+stored : (c : tie.In-loop Inv-loop μ-loop) →
+    let a = c .before .before .before .before .before .args in
+    c .before .loop .i * a .settings + c .before .loop .p < length (a .scratch .now)
+stored c =
+    let s = c .before .before .before .before .before in
+    omega (arith, s .pre .0 .room, part (s .args .settings) (c .loop-test .taken))
+
+mul-narrow : tie.Need-mul-narrow Inv-loop μ-loop
+mul-narrow c = omega (arith, stored c)
+
+add-narrow : tie.Need-add-narrow Inv-loop μ-loop
+add-narrow c = omega (arith, stored c)
+
+shared-slice-read-narrow : tie.Need-shared-slice-read-narrow Inv-loop μ-loop
+shared-slice-read-narrow c = stored (c .before)
+
+narrow-requires : tie.Need-narrow-requires Inv-loop μ-loop
+narrow-requires c κs = search needs
+
+-- the choice is a setting
+setting : (c : tie.After-narrow Inv-loop μ-loop) →
+    c .narrow .result < c .before .before .before .before .before .before .before .args .settings
+setting c = rw (c .narrow .ensures .0) (left-at (c .before .before) .kept .0)
+
+number-requires : tie.Need-number-requires Inv-loop μ-loop
+number-requires c κs =
+    let f = c .before .before .before .before .before .before .before .pre .0 in
+    ((f .settings, omega (arith, f .scans)), (c .before .before .before .loop .inv .1, setting c))
+
+-- the cell is one of the tables'
+inside : (c : tie.After-number Inv-loop μ-loop) →
+    let a = c .before .before .before .before .before .before .before .before .args in
+    (c .number .result < length (a .rates .now)) × (c .number .result < length (a .distortions .now))
+inside c =
+    let s = c .before .before .before .before .before .before .before .before in
+    let l = c .before .before .before in
+    let h = cell-inside (s .args .scans) (s .args .settings) _ _ _ (l .loop-test .taken) (l .before .loop .inv .1) (setting (c .before)) in
+    (omega (arith, c .number .ensures, s .pre .0 .rates-long), omega (arith, c .number .ensures, s .pre .0 .distortions-long))
+
+mul-rate-of : tie.Need-mul-rate-of Inv-loop μ-loop
+mul-rate-of c = let h = inside c .0 in search needs
+
+shared-slice-read-rate-of : tie.Need-shared-slice-read-rate-of Inv-loop μ-loop
+shared-slice-read-rate-of c = inside (c .before) .0
+
+rate-of-requires : tie.Need-rate-of-requires Inv-loop μ-loop
+rate-of-requires c κs = search needs
+
+mul-distortion-of : tie.Need-mul-distortion-of Inv-loop μ-loop
+mul-distortion-of c = let h = inside (c .before .before) .1 in search needs
+
+shared-slice-read-distortion-of : tie.Need-shared-slice-read-distortion-of Inv-loop μ-loop
+shared-slice-read-distortion-of c = inside (c .before .before .before) .1
+
+distortion-of-requires : tie.Need-distortion-of-requires Inv-loop μ-loop
+distortion-of-requires c κs = search needs
+
+-- what is read are the scan's cells
+read : (c : tie.After-distortion-of Inv-loop μ-loop) →
+    let a = c .before .before .before .before .before .before .before .before .before .before .before .before .args in
+    let l = c .before .before .before .before .before .before .before .before .loop in
+    let k = cell (a .settings) (l .i) (l .p) (choice (a .settings) (a .scratch .now) (l .i) (l .p)) in
+    (c .before .before .rate-of .result .0 ≡ getD (a .rates .now) k 0) × (c .distortion-of .result .0 ≡ getD (a .distortions .now) k 0)
+read c =
+    let e = rw (c .before .before .before .before .before .narrow .ensures .0) at (c .before .before .before .before .number .ensures) in
+    (c .before .before .rate-of .ensures ∙ rw e, c .distortion-of .ensures ∙ rw e)
+
+with-scan-requires : tie.Need-with-scan-requires Inv-loop μ-loop
+with-scan-requires c κs =
+    let s = c .before .before .before .before .before .before .before .before .before .before .before .before in
+    let l = c .before .before .before .before .before .before .before in
+    let h = along-small (table-small _ (fit-legal (s .pre .0))) (s .pre .1) (left-at l) in
+    (omega (arith, read c .0, h .0), omega (arith, read c .1, h .1))
+
+add-i : tie.Need-add-i Inv-loop μ-loop
+add-i c = search needs
+
+loop-less : tie.Need-loop-less Inv-loop μ-loop
+loop-less c = search needs
+
+loop-again : tie.Need-loop-again Inv-loop μ-loop
+loop-again c =
+    let e = c .before .before .before .before .before .before .narrow .ensures .0 in
+    let r = read (c .before) in
+    let w = c .with-scan .ensures in
+    let l = left-at (c .before .before .before .before .before .before .before .before) in
+    let a = along-more l (w .0 ∙ rw (r .0)) (w .1 .0 ∙ rw (r .1)) (w .1 .1 ∙ rw (r .1)) in
+    (omega arith, setting (c .before .before .before .before .before .before), rw (e, add-one) a)
+
+returns : tie.Need-returns Inv-loop μ-loop
+returns c =
+    let e : c .before .before .before .before .before .args .scans - c .before .loop .i ≡ 0 = omega arith in
+    along-all (rw e at (c .before .loop .inv .2))
+
+pub total-up-spec : {M : Type 1} → statement M
+total-up-spec =
+    tie.close
+    (tie.spec
+    Inv-loop
+    μ-loop
+    loop-holds
+    mul-narrow
+    add-narrow
+    shared-slice-read-narrow
+    narrow-requires
+    number-requires
+    mul-rate-of
+    shared-slice-read-rate-of
+    rate-of-requires
+    mul-distortion-of
+    shared-slice-read-distortion-of
+    distortion-of-requires
+    with-scan-requires
+    add-i
+    loop-less
+    loop-again
+    returns)

@@ -1,0 +1,2 @@
+-- What a sequence comes to.
+pub mod Walked

@@ -1,0 +1,108 @@
+// Along the choices: what the sequence comes to, its settings handed over, and scratch wiped.
+use keys::cost::Dist;
+use keys::cost::Rate;
+use tables::cells::number;
+ghost use mathlib.Core.Path.{_≡_};
+ghost use mathlib.Core.List.{_++_};
+ghost use Prim.Native.Nat.{ℕ, _+_, _*_, _≤_, _<_, _^_, max};
+ghost use lib.ListN.{getD, length, drop, replicate};
+ghost use Rattle.tables.specs.Tables.{table, planning};
+ghost use Rattle.trellis.specs.Chosen.{chosen};
+ghost use Rattle.checks.specs.Fit.{Fit};
+ghost use Rattle.walk.specs.Walked.{TotalsOf};
+
+// What a sequence comes to.
+pub struct Totals {
+    pub rate: Rate,
+    pub distortion: Dist,
+    pub peak: u64,
+}
+
+// What a cell says.
+fn rate_of(cell: u32) -> Rate
+    ensures { λ r. ⌜ r .0 ≡ cell ⌝ }
+{
+    Rate(cell as u64)
+}
+
+fn distortion_of(cell: u32) -> Dist
+    ensures { λ r. ⌜ r .0 ≡ cell ⌝ }
+{
+    Dist(cell as u64)
+}
+
+fn narrow(x: u8) -> usize
+    ensures { λ r. ⌜ (r ≡ x) × (r < 256) ⌝ }
+{
+    x as usize
+}
+
+fn larger(a: u64, b: u64) -> u64
+    ensures { λ r. ⌜ r ≡ max a b ⌝ }
+{
+    if a < b { b } else { a }
+}
+
+// A sequence with one more scan.
+fn with_scan(t: Totals, rate: Rate, distortion: Dist) -> Totals
+    requires { ⌜ (t .rate .0 + rate .0 < 2 ^ 64) × (t .distortion .0 + distortion .0 < 2 ^ 64) ⌝ }
+    ensures { λ r. ⌜ (r .rate .0 ≡ t .rate .0 + rate .0) × ((r .distortion .0 ≡ t .distortion .0 + distortion .0) × (r .peak ≡ max (t .peak) (distortion .0))) ⌝ }
+{
+    Totals {
+        rate: Rate(t.rate.0 + rate.0),
+        distortion: Dist(t.distortion.0 + distortion.0),
+        peak: larger(t.peak, distortion.0),
+    }
+}
+
+// The totals of the chosen sequence, which is allowed.
+pub fn total_up(
+    scans: usize,
+    settings: usize,
+    law: u64,
+    rates: &[u32],
+    distortions: &[u32],
+    scratch: &[u8],
+) -> Totals
+    requires { ⌜ Fit scans settings law (now rates) (now distortions) (length (now scratch)) ⌝ }
+    requires { ⌜ planning (table scans settings law (now rates) (now distortions)) .allowed (chosen settings scans (now scratch)) ⌝ }
+    ensures { λ r. ⌜ TotalsOf (planning (table scans settings law (now (rates .entry)) (now (distortions .entry)))) (chosen settings scans (now (scratch .entry))) r ⌝ }
+{
+    let mut t = Totals {
+        rate: Rate(0),
+        distortion: Dist(0),
+        peak: 0,
+    };
+    let mut p: usize = 0;
+    for i in 0..scans {
+        let q = narrow(scratch[i * settings + p]);
+        let at = number(settings as u64, i as u64, p as u64, q as u64) as usize;
+        t = with_scan(t, rate_of(rates[at]), distortion_of(distortions[at]));
+        p = q;
+    }
+    t
+}
+
+// The chosen sequence goes to the first bytes of the plan.
+pub fn hand_over(scans: usize, settings: usize, scratch: &[u8], plan: &mut [u8])
+    requires { ⌜ (settings ≤ 16) × ((scans * settings ≤ length (now scratch)) × (scans ≤ length (now plan))) ⌝ }
+    requires { ⌜ ((i : ℕ) → i < scans → getD (chosen settings scans (now scratch)) i 0 < settings) ⌝ }
+    ensures { λ _. ⌜ now (plan .exit) ≡ chosen settings scans (now (scratch .entry)) ++ drop scans (now (plan .entry)) ⌝ }
+{
+    let mut p: usize = 0;
+    for scan in 0..scans {
+        let q = scratch[scan * settings + p];
+        plan[scan] = q;
+        p = narrow(q);
+    }
+}
+
+// The first n bytes become zero.
+pub fn wipe(scratch: &mut [u8], n: usize)
+    requires { ⌜ n ≤ length (now scratch) ⌝ }
+    ensures { λ _. ⌜ now (scratch .exit) ≡ replicate n 0 ++ drop n (now (scratch .entry)) ⌝ }
+{
+    for i in 0..n {
+        scratch[i] = 0;
+    }
+}

@@ -1,0 +1,35 @@
+"""The vectors of file: all calls of the plan-file reader and writer, in their order, for crates/file_cases."""
+
+import random
+
+from crate_files import store
+from file_blocks import a_block_less, a_block_more, bad_blocks, lengths
+from file_calls import FileCalls
+from file_entries import entries, filler, high_halves, steps
+from file_faults import several_faults
+from file_fields import compared, each_field, several_fields, terms
+from file_good import all_ends, every_size
+from file_lengths import buffer_lengths
+from file_sweeps import sweeps
+from lines import counted
+
+PARTS = [
+    every_size, all_ends,
+    each_field, terms, compared,
+    lengths, a_block_more, a_block_less, bad_blocks,
+    several_fields,
+    entries, high_halves, steps, filler,
+    buffer_lengths, several_faults, sweeps,
+]
+
+
+def make(into):
+    out, draw = FileCalls(), random.Random(2)
+    for part in PARTS:
+        part(out, draw)
+    # a byte that is neither 1 nor 2 ends the run
+    stdin, stdout = b"".join(out.stdin) + b"\0", "".join(out.lines).encode()
+    store(into, "file_cases", stdin, stdout)
+    print("calls %d, stdin %d bytes, stdout %d bytes" % (len(out.lines), len(stdin), len(stdout)))
+    for call, counts in out.counts.items():
+        print(call + " by number: " + counted(counts))

@@ -1,0 +1,65 @@
+"""The cells of a group's two tables, and the bytes that tell plan_cases to make them, as crates/plan_cases/src/cells.rt takes them."""
+
+import struct
+
+from planner import FORBIDDEN, MOST_CELL
+
+# where plan_cases takes the cells from: the group before, codes, or a generator
+KEPT, CODES, GENERATOR = 1, 2, 3
+
+# the cells that a code from 240 on stands for
+SPECIAL = [
+    1048575,
+    1048576,
+    4294967295,
+    4294967294,
+    1048574,
+    2147483648,
+    2147483647,
+    16777216,
+    65536,
+    65535,
+    1000000,
+    524288,
+    262143,
+    4096,
+    1000,
+    256,
+]
+CODE = dict([(k, k) for k in range(240)] + [(cell, 240 + k) for k, cell in enumerate(SPECIAL)])
+LEGAL = [cell for cell in SPECIAL if cell <= MOST_CELL]
+
+# a generator's numbers are modulo this
+PRIME = 2 ** 31 - 1
+
+
+class Cells:
+    """Both tables, their source, and the bytes that stand for them in the input."""
+
+    def __init__(self, source, told, rates, distortions):
+        self.source, self.told, self.rates, self.distortions = source, told, rates, distortions
+
+
+def kept(before):
+    """The tables of the group before."""
+    return Cells(KEPT, b"", before.rates, before.distortions)
+
+
+def coded(rates, distortions):
+    """A byte for each cell."""
+    return Cells(CODES, bytes(CODE[c] for c in rates + distortions), rates, distortions)
+
+
+def generated(lengths, rates, distortions):
+    """Each table by its seed, base, span and forbid."""
+    told = struct.pack("<8Q", *rates, *distortions)
+    return Cells(GENERATOR, told, stream(lengths[0], *rates), stream(lengths[1], *distortions))
+
+
+def stream(size, seed, base, span, forbid):
+    """A generator's cells, as cells.rt draws them."""
+    x, out = seed % PRIME, []
+    for _ in range(size):
+        x = x * 48271 % PRIME
+        out.append(FORBIDDEN if forbid and x % forbid == 0 else base + x % span)
+    return out
