@@ -7,11 +7,11 @@ use native.Mathlib.Omega.{arith}
 use lib.ListN.{length, take, getD, length-append, List·getD-append}
 use lib.Seq.{take-at, getD-append-add}
 use Rattle.bytes.specs.Bytes.{le, value, half}
-use Rattle.blocks.specs.Sum.{sum}
+use Rattle.blocks.specs.BlockCheck.{check-of}
 use Rattle.blocks.specs.File.{sealed, data-block, data-from, pairs, entry-at}
 use Rattle.blocks.specs.Blocks.{block-broken}
 use Rattle.bytes.proofs.NumberLaws.{length-le, value-le}
-use Rattle.blocks.proofs.SumLaws.{Small, _joins_, small-le}
+use Rattle.blocks.proofs.SumLaws.{ByteSum, _joins_, small-le}
 use Rattle.blocks.proofs.PairLaws.{half-pair, length-pairs, small-pairs, getD-pairs}
 use Rattle.blocks.proofs.BlockLaws.{length-sealed, block-sound}
 
@@ -33,7 +33,7 @@ length-data (suc n) e b =
 
 module _ (e : ℕ → ℕ) (h : (j : ℕ) → e j < 16) where
   -- a data block is made of bytes
-  small-data : (b : ℕ) → Small (data-block e b)
+  small-data : (b : ℕ) → ByteSum (data-block e b)
   unfolding data-block
   small-data b = small-le 4 (suc b) joins small-pairs e h (1008 * b) 504
 
@@ -70,7 +70,7 @@ getD-block e b i rest h =
     let four : length number ≡ 4 = length-le 4 (suc b) in
     let long : length body ≡ 508 = length-data-block e b in
     List·getD-append (sealed body) rest 0 (4 + i) (omega (arith, length-sealed body long))
-    ∙ List·getD-append body (le 4 (sum body)) 0 (4 + i) (omega arith)
+    ∙ List·getD-append body (le 4 (check-of body)) 0 (4 + i) (omega arith)
     ∙ ap (λ (k : ℕ). getD body (k + i) 0) (sym four)
     ∙ getD-append-add number (pairs e (1008 * b) 504) i 0 ∙ getD-pairs e (1008 * b) 504 i h
 

@@ -5,7 +5,7 @@ use lib.ListN.{length, take}
 use Rattle.rules.specs.declared.Fields.{Fields}
 use Rattle.bytes.specs.Bytes.{le, value}
 use Rattle.blocks.specs.File.{letters, header}
-use Rattle.blocks.proofs.SumLaws.{Small, _joins_, small-le, small-zeros}
+use Rattle.blocks.proofs.SumLaws.{ByteSum, _joins_, small-le, small-zeros}
 
 -- the header is 508 bytes
 pub length-header : (f : Fields) → length (header f) ≡ 508
@@ -13,11 +13,11 @@ unfolding header le
 length-header f = refl
 
 -- the letters are bytes
-small-letters : Small letters
+small-letters : ByteSum letters
 small-letters = record { most = omega arith }
 
 -- the header is made of bytes
-pub small-header : (f : Fields) → Small (header f)
+pub small-header : (f : Fields) → ByteSum (header f)
 unfolding header
 small-header f =
     small-le 4 0 joins small-letters joins small-le 2 (f .scans) joins small-le 1 (f .settings) joins small-le 1 (f .law)

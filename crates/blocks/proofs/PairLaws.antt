@@ -8,7 +8,7 @@ use lib.Seq.{ext-getD}
 use Rattle.bytes.specs.Bytes.{part, half}
 use Rattle.blocks.specs.File.{pairs}
 use Rattle.bytes.proofs.PartLaws.{part-length, part-get}
-use Rattle.blocks.proofs.SumLaws.{Small}
+use Rattle.blocks.proofs.SumLaws.{ByteSum}
 use mathlib.Core.Logic.{_≢_}
 use mathlib.Core.List.{List, _∷_}
 use Prim.Native.Nat.{ℕ, zero, suc, _+_, _*_, _≤_, _<_}
@@ -31,7 +31,7 @@ length-pairs e j zero = refl
 length-pairs e j (suc n) = ap suc (length-pairs e (suc (suc j)) n)
 
 -- entries of four bits make bytes
-pub small-pairs : (e : ℕ → ℕ) → ((j : ℕ) → e j < 16) → (j n : ℕ) → Small (pairs e j n)
+pub small-pairs : (e : ℕ → ℕ) → ((j : ℕ) → e j < 16) → (j n : ℕ) → ByteSum (pairs e j n)
 small-pairs e h j zero = record { most = omega arith }
 small-pairs e h j (suc n) = record { most = omega (arith, small-pairs e h (suc (suc j)) n .most, h j, h (suc j)) }
 

@@ -9,7 +9,7 @@ use lib.ListN.{length, getD}
 use borrow.Author.Tests.{eqb-true, not-false}
 use Rattle.laws.proofs.Tests.{neither}
 use Rattle.bytes.specs.Bytes.{le, part, number-at}
-use Rattle.blocks.specs.Sum.{sum}
+use Rattle.blocks.specs.BlockCheck.{check-of}
 use Rattle.blocks.specs.File.{sealed, data-block, data-from, pairs, entry-at}
 use Rattle.blocks.specs.Blocks.{block-broken}
 use Rattle.bytes.proofs.PartLaws.{part-join}
@@ -20,7 +20,7 @@ use Rattle.blocks.proofs.PairLaws.{pairs-part}
 module _ (file : List ℕ) (bytes : Bytes file) where
   -- a block that is not broken has its number and the sum of its bytes
   block-rules : (k : ℕ) → block-broken file k ≡ false
-      → (number-at (512 * k) 4 file ≡ k) × (number-at (512 * k + 508) 4 file ≡ sum (part (512 * k) 508 file))
+      → (number-at (512 * k) 4 file ≡ k) × (number-at (512 * k + 508) 4 file ≡ check-of (part (512 * k) 508 file))
   unfolding block-broken
   block-rules k b =
       let n = neither (not (eqb (number-at (512 * k) 4 file) k)) _ b in
@@ -35,7 +35,7 @@ module _ (file : List ℕ) (bytes : Bytes file) where
       → sealed body ≡ part (512 * k) 512 file
   sealed-part k body h b e =
       part-join file (512 * k) 508 4 e
-      (ap (λ (l : List ℕ). le 4 (sum l)) e ∙ ap (le 4) (sym (block-rules k b .1))
+      (ap (λ (l : List ℕ). le 4 (check-of l)) e ∙ ap (le 4) (sym (block-rules k b .1))
       ∙ number-back (512 * k + 508) 4 file bytes (omega arith))
 
   -- the two entries of a byte are the byte

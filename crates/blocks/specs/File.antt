@@ -4,35 +4,29 @@ use mathlib.Core.List.{List, [], _∷_, _++_}
 use Prim.Native.Nat.{ℕ, zero, suc, _+_, _*_, _/_, _%_}
 use lib.Dec.{ltb}
 use lib.ListN.{getD, replicate}
+use Rattle.blocks.specs.Sizes.{block-size, block-entries, block-pairs, first-run, last-run, short-file, long-file}
+use Rattle.blocks.specs.BlockCheck.{check-of}
 use Rattle.rules.specs.declared.Fields.{Fields}
 use Rattle.bytes.specs.Bytes.{le, half}
-use Rattle.blocks.specs.Sum.{sum}
 use mathlib.Core.Bool.{Bool, not, cond}
 use Prim.Native.Nat.{ℕ, zero, suc, _+_, _*_, _/_}
 use lib.Dec.{eqb, ltb}
 use lib.ListN.{getD, replicate}
 
--- "Blocks of 512 bytes"; "Settings start in block 1, bytes 4 to 507, two to a byte": 1,008 entries a block
-abbrev pub block-size : ℕ
-block-size = 512
-
-abbrev pub block-entries : ℕ
-block-entries = 1008
-
 -- "the four letters QPL1"
 abbrev pub letters : List ℕ
 letters = 81 ∷ 80 ∷ 76 ∷ 49 ∷ []
 
--- "bytes 508 to 511 the sum of bytes 0 to 507"
+-- a block: its bytes, and then their check
 abbrev pub sealed : List ℕ → List ℕ
-sealed body = body ++ le 4 (sum body)
+sealed body = body ++ le 4 (check-of body)
 
 -- Block 0: its number; "4 to 7: the four letters QPL1. 8 to 9: N. 10: Q. 11: law. 12: kind .. . 13 to 15: zero. 16 to 23: B. 24 to 27: n.
 -- 28 to 31: d. 32 to 35: rate. 36 to 39: distortion. 40 to 43: peak. 44 to 47: floor. 48 to 507: zero."
 unfoldable pub header : Fields → List ℕ
 header f =
-    le 4 0 ++ letters ++ le 2 (f .scans) ++ le 1 (f .settings) ++ le 1 (f .law) ++ le 1 (f .kind) ++ replicate 3 0 ++ le 8 (f .budget) ++ le 4 (f .n)
-    ++ le 4 (f .d) ++ le 4 (f .rate .0) ++ le 4 (f .distortion .0) ++ le 4 (f .peak) ++ le 4 (f .floor .0) ++ replicate 460 0
+    le 4 0 ++ letters ++ le 2 (f .scans) ++ le 1 (f .settings) ++ le 1 (f .law) ++ le 1 (f .kind) ++ replicate first-run 0 ++ le 8 (f .budget) ++ le 4 (f .n)
+    ++ le 4 (f .d) ++ le 4 (f .rate .0) ++ le 4 (f .distortion .0) ++ le 4 (f .peak) ++ le 4 (f .floor .0) ++ replicate last-run 0
 
 -- "entries from N on are zero"
 abbrev pub entry-of : ℕ → List ℕ → ℕ → ℕ
@@ -45,7 +39,7 @@ pairs e j (suc n) = (e j + 16 * e (suc j)) ∷ pairs e (suc (suc j)) n
 
 -- "Settings start in block 1, bytes 4 to 507 ..; block 2 goes on at entry 1,008": data block b, counted from 0, is block b + 1
 unfoldable pub data-block : (ℕ → ℕ) → ℕ → List ℕ
-data-block e b = le 4 (suc b) ++ pairs e (block-entries * b) 504
+data-block e b = le 4 (suc b) ++ pairs e (block-entries * b) block-pairs
 
 -- "N over 1,008 goes with length 1,536 and smaller N with 1,024"
 abbrev pub data-blocks : ℕ → ℕ
@@ -68,4 +62,4 @@ entry-at file j = half (getD file (block-size * suc (j / block-entries) + 4 + j 
 
 -- "N over 1,008 goes with length 1,536 and smaller N with 1,024; else refusal 13 at byte 8"
 abbrev pub other-length : ℕ → ℕ → Bool
-other-length n N = cond (ltb block-entries N) (not (eqb n 1536)) (not (eqb n 1024))
+other-length n N = cond (ltb block-entries N) (not (eqb n long-file)) (not (eqb n short-file))

@@ -1,5 +1,6 @@
--- The blocks of a plan file.
-pub mod Sum
+-- The bytes of a plan file, block by block.
+pub mod Sizes
+pub mod BlockCheck
 pub mod File
 pub mod Packed
 pub mod Blocks

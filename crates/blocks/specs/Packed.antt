@@ -1,6 +1,6 @@
 -- A byte with one of its halves replaced. Assumes nothing.
 use Prim.Native.Nat.{ℕ, suc, _+_, _*_, _/_, _%_}
-use Rattle.blocks.specs.File.{block-size, block-entries}
+use Rattle.blocks.specs.Sizes.{block-size, block-entries}
 
 -- the byte of entry j
 abbrev pub place-of : ℕ → ℕ

@@ -1,6 +1,11 @@
 // The number and the check of each block.
+ghost use Rattle.blocks.specs.Sizes.{«block-size», «long-file»};
+use crate::check::check_of;
+use crate::sizes::BLOCK;
+use crate::sizes::BODY;
+use crate::sizes::LONG_FILE;
+use crate::sizes::SHORT_FILE;
 use bytes::numbers::four;
-use bytes::numbers::wide;
 use checks::stage::Stage;
 use tables::refusal::Refusal;
 ghost use mathlib.Core.Path.{_≡_};
@@ -12,30 +17,14 @@ ghost use Rattle.checks.specs.Checks.{found, when};
 ghost use Rattle.checks.specs.Stages.{ended};
 ghost use Prim.Native.Nat.{_+_, _*_, _≤_, _<_};
 ghost use lib.ListN.{length};
-ghost use Rattle.bytes.specs.Bytes.{part};
-ghost use Rattle.blocks.specs.Sum.{sum};
-
-// The sum of k bytes.
-pub fn sum_of(s: &[u8], at: usize, k: usize) -> u64
-    requires { ⌜ (at + k ≤ length (now s)) × (k ≤ 512) ⌝ }
-    ensures { λ r. ⌜ r ≡ sum (part at k (now (s .entry))) ⌝ }
-{
-    let mut total = 0;
-    let mut i = 0;
-    while i < k {
-        total += wide(s[at + i]);
-        i += 1;
-    }
-    total
-}
 
 fn neither_length(n: usize) -> bool
     ensures { λ r. ⌜ r ≡ length-out n ⌝ }
 {
-    if n == 1024 {
+    if n == SHORT_FILE {
         return false;
     }
-    n != 1536
+    n != LONG_FILE
 }
 
 // The first stage.
@@ -49,23 +38,23 @@ pub fn size(file: &[u8]) -> Stage
 }
 
 fn block_wrong(file: &[u8], k: usize) -> bool
-    requires { ⌜ (k < 3) × (512 * k + 512 ≤ length (now file)) ⌝ }
+    requires { ⌜ (k < 3) × (block-size * k + block-size ≤ length (now file)) ⌝ }
     ensures { λ r. ⌜ r ≡ block-broken (now (file .entry)) k ⌝ }
 {
-    let at = 512 * k;
+    let at = BLOCK * k;
     if four(file, at) != k as u64 {
         return true;
     }
-    four(file, at + 508) != sum_of(file, at, 508)
+    four(file, at + BODY) != check_of(file, at)
 }
 
 // The second stage: the lowest block that is wrong.
 pub fn blocks(file: &[u8]) -> Stage
-    requires { ⌜ length (now file) ≤ 1536 ⌝ }
+    requires { ⌜ length (now file) ≤ long-file ⌝ }
     ensures { λ r. ⌜ ended r ≡ found refusal.Block (bad-block (now (file .entry))) ⌝ }
 {
     let mut k = 0;
-    while k < file.len() / 512 {
+    while k < file.len() / BLOCK {
         if block_wrong(file, k) {
             return Stage::Stopped(Refusal::Block(k as u64));
         }

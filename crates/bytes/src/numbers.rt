@@ -1,28 +1,23 @@
 // Numbers in bytes, low byte first.
+use crate::cast::byte_to_number;
 ghost use mathlib.Core.Path.{_≡_};
 ghost use Prim.Native.Nat.{_+_, _*_, _≤_, _<_, _^_};
 ghost use lib.ListN.{length, replicate};
 ghost use lib.Seq.{sets};
 ghost use Rattle.bytes.specs.Bytes.{le, «number-at»};
 
-pub fn wide(b: u8) -> u64
-    ensures { λ r. ⌜ (r ≡ b) × (r < 256) ⌝ }
-{
-    b as u64
-}
-
 pub fn one(s: &[u8], at: usize) -> u64
     requires { ⌜ at + 1 ≤ length (now s) ⌝ }
     ensures { λ r. ⌜ (r ≡ number-at at 1 (now (s .entry))) × (r < 2 ^ 8) ⌝ }
 {
-    wide(s[at])
+    byte_to_number(s[at])
 }
 
 pub fn two(s: &[u8], at: usize) -> u64
     requires { ⌜ at + 2 ≤ length (now s) ⌝ }
     ensures { λ r. ⌜ (r ≡ number-at at 2 (now (s .entry))) × (r < 2 ^ 16) ⌝ }
 {
-    wide(s[at]) + wide(s[at + 1]) * 256
+    byte_to_number(s[at]) + byte_to_number(s[at + 1]) * 256
 }
 
 pub fn four(s: &[u8], at: usize) -> u64

@@ -1,13 +1,10 @@
--- What the checks have passed is a legal table. Assumes nothing.
-use mathlib.Core.List.{List}
+-- What the checks have passed is a legal table, under any law. Assumes nothing.
 use Prim.Native.Nat.{ℕ}
-use Rattle.tables.specs.Tables.{table}
+use Rattle.tables.specs.Tables.{Table}
 use Rattle.tables.specs.Legal.{LegalTable}
 use Rattle.checks.specs.Fit.{Fit}
 
--- what the checks have passed is a legal table
-pub fit-legal : {N Q law : ℕ} {rates distortions : List ℕ} {room : ℕ} → Fit N Q law rates distortions room →
-    LegalTable (table N Q law rates distortions)
+pub fit-legal : {t : Table} {room : ℕ} → Fit (t .N) (t .Q) (t .rates) (t .distortions) room → LegalTable t
 fit-legal f = record {
   some-scans = f .some-scans;
   scans = f .scans;

@@ -1,123 +1,186 @@
--- The checks 1 to 7: the refusal of each way out, and what a call that passes them knows. Assumes nothing.
-use mathlib.Core.Path.{_≡_}
-use mathlib.Core.Bool.{Bool, true, false}
-use mathlib.Core.Option.{none}
-use mathlib.Core.List.{List}
-use Prim.Native.Nat.{ℕ, _*_, _≤_}
+-- The checks 1 to 7: what each stage of them tells, and what a call that passes them knows. Assumes nothing.
+use mathlib.Core.Path.{sym, _≡_, refl, ap, _∙_}
+use mathlib.Core.Bool.{Bool, false}
+use mathlib.Core.Option.{Option, none, some}
+use mathlib.Core.List.{List, [], _∷_, _++_}
+use Prim.Native.Nat.{ℕ, _≤_}
+use lib.Dec.{ltb}
 use lib.ListN.{length}
 use borrow.Author.Tests.{eqb-true, ltb-false, not-false}
-use Rattle.tables.specs.declared.refusal.Refusal.the-variants.{Scans, Settings, StepLaw, Multiplier, Lengths, Buffer, Cell}
+use Rattle.laws.proofs.Tests.{neither, never}
 use Rattle.legal.specs.declared.Legality.{Legality}
 use Rattle.legal.specs.declared.Legality.the-variants.{Legal, Illegal}
-use Rattle.tables.specs.Tables.{cells}
 use Rattle.legal.specs.Judged.{Judged}
-use Rattle.checks.specs.Planning.{Asked, Unsound, Sound, early, illegal, early-refusal, scans-out, settings-out, lengths-out, buffers-short}
+use Rattle.legal.proofs.LegalLaws.{lowest-unique, not-both}
+use Rattle.tables.specs.declared.refusal.Refusal.{Refusal}
+use Rattle.tables.specs.declared.refusal.Refusal.the-variants as refusal
+use Rattle.tables.specs.Limits.{most-scans, most-settings, most-term}
 use Rattle.tables.specs.Law.{law-out}
-use Rattle.checks.proofs.RangeLaws.{in-range, none-fails}
-use Rattle.laws.proofs.Tests.{neither}
+use Rattle.tables.specs.Tables.{cells, scratch-need}
+use Rattle.checks.specs.declared.stage.Stage.{Stage}
+use Rattle.checks.specs.declared.stage.Stage.the-variants.{Passed, Stopped}
+use Rattle.checks.specs.Checks.{zero-or-over, when, or-else, first-refusal}
+use Rattle.checks.specs.Planning.{Asked, Unsound, Sound, early, illegal, early-refusal, range-checks, scans-out, settings-out, lengths-out, buffers-short, multiplier-out}
+use Rattle.checks.specs.Stages.{ended, CheckedAs, CellsChecked, all-legal, not-legal}
 use Rattle.checks.specs.Fit.{Fit}
-use Rattle.checks.specs.Checked.{CheckedAs, CellsChecked, all-legal, not-legal}
-use Rattle.checks.specs.declared.check.Checked.{Checked}
-use Rattle.checks.specs.declared.check.Checked.the-variants as checked
+use Rattle.checks.proofs.GiveLaws.{Gives, gives-first, gives-when}
+use Rattle.checks.proofs.RangeLaws.{in-range}
+use Rattle.checks.proofs.CheckLaws.{none-when, all-pass, first-append}
 
 -- check 7 alone, by what the legality check answers
-pub cells-legal : {rates distortions : List ℕ} {v : Legality} → Judged rates distortions v → v ≡ Legal → CellsChecked rates distortions checked.Sound
+pub cells-legal : {rates distortions : List ℕ} {v : Legality} → Judged rates distortions v → v ≡ Legal → CellsChecked rates distortions Passed
 cells-legal j e = all-legal (rw e at j)
 
 pub cells-illegal : {rates distortions : List ℕ} {v : Legality} {k : ℕ} → Judged rates distortions v → v ≡ Illegal k →
-    CellsChecked rates distortions (checked.Refused (Cell k))
+    CellsChecked rates distortions (Stopped (refusal.Cell k))
 cells-illegal j e = not-legal (rw e at j)
 
+-- numbers that passed 1 and 2 are in their range
+pub in-ranges : (most N Q : ℕ) (lawless : Bool) → first-refusal (range-checks most N Q lawless) ≡ none →
+    ((1 ≤ N) × (N ≤ most)) × ((1 ≤ Q) × (Q ≤ most-settings))
+in-ranges most N Q lawless e =
+    let p = all-pass (range-checks most N Q lawless) e in
+    (in-range {most = most} {x = N} (none-when _ _ (p .0)), in-range {most = most-settings} {x = Q} (none-when _ _ (p .1 .0)))
+
+-- lengths that passed check 5
+pub lengths-exact : (N Q : ℕ) (rates distortions : List ℕ) → lengths-out N Q rates distortions ≡ false →
+    (length rates ≡ cells N Q) × (length distortions ≡ cells N Q)
+lengths-exact N Q rates distortions e = let b = neither _ _ e in (eqb-true _ _ (not-false _ (b .0)), eqb-true _ _ (not-false _ (b .1)))
+
+-- the checks 5 and 6
+abbrev pub size-checks : Asked → List (Option Refusal)
+size-checks a =
+    when (lengths-out (a .N) (a .Q) (a .rates) (a .distortions)) refusal.Lengths
+    ∷ when (buffers-short (a .N) (a .Q) (a .plan) (a .scratch)) refusal.Buffer
+    ∷ []
+
+-- the checks 1 to 3
+abbrev pub range-refusal : Asked → Option Refusal
+range-refusal a = first-refusal (range-checks most-scans (a .N) (a .Q) (law-out (a .law)))
+
 -- what the checks 1 to 6 leave
-pub record Passes (fourth : Bool) (a : Asked) : Type 0 where
+pub record Admitted (further : Option Refusal) (a : Asked) : Type 0 where
   pub scans : scans-out (a .N) ≡ false
   pub settings : settings-out (a .Q) ≡ false
   pub law : law-out (a .law) ≡ false
-  pub multiplier : fourth ≡ false
+  pub further-passed : further ≡ none
   pub lengths : lengths-out (a .N) (a .Q) (a .rates) (a .distortions) ≡ false
   pub buffers : buffers-short (a .N) (a .Q) (a .plan) (a .scratch) ≡ false
 
-module _ {fourth : Bool} {a : Asked} where
-  -- a law for each refusal of the checks 1 to 6
-  pub refuses-scans : scans-out (a .N) ≡ true → Unsound fourth a Scans
+module _ (further : Option Refusal) (a : Asked) where
+  -- the checks 1 to 6 are 1 to 3, the further one, and 5 and 6
+  early-parts : early-refusal further a ≡ or-else (range-refusal a) (or-else further (first-refusal (size-checks a)))
   unfolding early-refusal
-  refuses-scans n = early {r = Scans} (rw n)
+  early-parts = first-append (range-checks most-scans (a .N) (a .Q) (law-out (a .law))) (further ∷ size-checks a)
 
-  pub refuses-settings : scans-out (a .N) ≡ false → settings-out (a .Q) ≡ true → Unsound fourth a Settings
-  unfolding early-refusal
-  refuses-settings n q = early {r = Settings} (rw (n, q))
+  -- each of the three, where those before it have passed
+  stops-at-range : {r : Refusal} → range-refusal a ≡ some r → Unsound further a r
+  stops-at-range {r} e = early {r = r} (early-parts ∙ rw e refl)
 
-  pub refuses-law : scans-out (a .N) ≡ false → settings-out (a .Q) ≡ false → law-out (a .law) ≡ true → Unsound fourth a StepLaw
-  unfolding early-refusal
-  refuses-law n q l = early {r = StepLaw} (rw (n, q, l))
+  stops-at-further : {r : Refusal} → range-refusal a ≡ none → further ≡ some r → Unsound further a r
+  stops-at-further {r} e f = early {r = r} (early-parts ∙ rw (e, f) refl)
 
-  pub refuses-multiplier : scans-out (a .N) ≡ false → settings-out (a .Q) ≡ false → law-out (a .law) ≡ false → fourth ≡ true →
-      Unsound fourth a Multiplier
-  unfolding early-refusal
-  refuses-multiplier n q l m = early {r = Multiplier} (rw (n, q, l, m))
+  stops-at-size : {r : Refusal} → range-refusal a ≡ none → further ≡ none → first-refusal (size-checks a) ≡ some r → Unsound further a r
+  stops-at-size {r} e f g = early {r = r} (early-parts ∙ rw (e, f, g) refl)
 
-  pub refuses-lengths : scans-out (a .N) ≡ false → settings-out (a .Q) ≡ false → law-out (a .law) ≡ false → fourth ≡ false →
-      lengths-out (a .N) (a .Q) (a .rates) (a .distortions) ≡ true → Unsound fourth a Lengths
-  unfolding early-refusal
-  refuses-lengths n q l m w = early {r = Lengths} (rw (n, q, l, m, w))
+  -- .. as a stage of the code ends
+  pub range-stage : {z : Stage} {w : Refusal} → ended z ≡ range-refusal a → z ≡ Stopped w → CheckedAs further a z
+  range-stage {z} {w} e q = rw q (stops-at-range {r = w} (sym e ∙ ap ended q))
 
-  pub refuses-buffer : scans-out (a .N) ≡ false → settings-out (a .Q) ≡ false → law-out (a .law) ≡ false → fourth ≡ false →
-      lengths-out (a .N) (a .Q) (a .rates) (a .distortions) ≡ false → buffers-short (a .N) (a .Q) (a .plan) (a .scratch) ≡ true →
-      Unsound fourth a Buffer
-  unfolding early-refusal
-  refuses-buffer n q l m w b = early {r = Buffer} (rw (n, q, l, m, w, b))
+  pub further-stage : {z : Stage} {w : Refusal} → range-refusal a ≡ none → ended z ≡ further → z ≡ Stopped w → CheckedAs further a z
+  further-stage {z} {w} n e q = rw q (stops-at-further {r = w} n (sym e ∙ ap ended q))
 
-  passes : Passes fourth a → early-refusal fourth a ≡ none
-  unfolding early-refusal
-  passes p = rw (p .scans, p .settings, p .law, p .multiplier, p .lengths, p .buffers)
+  pub size-stage : {z : Stage} {w : Refusal} → range-refusal a ≡ none → further ≡ none → ended z ≡ first-refusal (size-checks a) → z ≡ Stopped w →
+      CheckedAs further a z
+  size-stage {z} {w} n f e q = rw q (stops-at-size {r = w} n f (sym e ∙ ap ended q))
 
   -- where none of them refuses, the cells decide
-  pub cells-decide : {r : Checked} → Passes fourth a → CellsChecked (a .rates) (a .distortions) r → CheckedAs fourth a r
-  cells-decide p (all-legal h) = record { passed = passes p; legal = h }
-  cells-decide p (not-legal h) = illegal (passes p) h
+  pub cells-decide : {r : Stage} → range-refusal a ≡ none → further ≡ none → first-refusal (size-checks a) ≡ none →
+      CellsChecked (a .rates) (a .distortions) r → CheckedAs further a r
+  cells-decide e f g (all-legal h) = record { passed = early-parts ∙ rw (e, f, g) refl; legal = h }
+  cells-decide e f g (not-legal h) = illegal (early-parts ∙ rw (e, f, g) refl) h
 
-  -- the lengths that check 5 lets pass
-  pub exact-lengths : Passes fourth a → (length (a .rates) ≡ cells (a .N) (a .Q)) × (length (a .distortions) ≡ cells (a .N) (a .Q))
-  exact-lengths p =
-      let b = neither _ _ (p .lengths) in
-      (eqb-true _ _ (not-false _ (b .0)), eqb-true _ _ (not-false _ (b .1)))
+module _ {further : Option Refusal} {a : Asked} where
+  pub admitted : early-refusal further a ≡ none → Admitted further a
+  unfolding early-refusal
+  admitted e =
+      let p = all-pass (range-checks most-scans (a .N) (a .Q) (law-out (a .law)) ++ (further ∷ size-checks a)) e in
+      record {
+        scans = none-when _ _ (p .0);
+        settings = none-when _ _ (p .1 .0);
+        law = none-when _ _ (p .1 .1 .0);
+        further-passed = p .1 .1 .1 .0;
+        lengths = none-when _ _ (p .1 .1 .1 .1 .0);
+        buffers = none-when _ _ (p .1 .1 .1 .1 .1 .0);
+      }
 
   -- the buffers that check 6 lets pass
-  long-enough : Passes fourth a → (a .N ≤ a .plan) × (a .N * a .Q ≤ a .scratch)
+  long-enough : Admitted further a → (a .N ≤ a .plan) × (scratch-need (a .N) (a .Q) ≤ a .scratch)
   long-enough p =
       let b = neither _ _ (p .buffers) in
       (ltb-false _ _ (b .0), ltb-false _ _ (b .1))
 
-  -- a sound call has passed each of them
-  sound-passes : Sound fourth a → Passes fourth a
-  unfolding early-refusal
-  sound-passes s =
-      let n = none-fails (scans-out (a .N)) Scans _ (s .passed) in
-      let q = none-fails (settings-out (a .Q)) Settings _ (n .1) in
-      let l = none-fails (law-out (a .law)) StepLaw _ (q .1) in
-      let m = none-fails fourth Multiplier _ (l .1) in
-      let w = none-fails (lengths-out (a .N) (a .Q) (a .rates) (a .distortions)) Lengths _ (m .1) in
-      let b = none-fails (buffers-short (a .N) (a .Q) (a .plan) (a .scratch)) Buffer _ (w .1) in
-      record { scans = n .0; settings = q .0; law = l .0; multiplier = m .0; lengths = w .0; buffers = b .0 }
-
-  -- a sound call is one that a pass can be asked, lends room for the plan, and has no multiplier out of range
-  pub sound-fit : Sound fourth a → Fit (a .N) (a .Q) (a .law) (a .rates) (a .distortions) (a .scratch)
+  -- a sound call is one that a pass can be asked, lends room for the plan, and has passed the further check
+  pub sound-fit : Sound further a → Fit (a .N) (a .Q) (a .rates) (a .distortions) (a .scratch)
   sound-fit s =
-      let p = sound-passes s in
+      let p = admitted (s .passed) in
+      let l = lengths-exact (a .N) (a .Q) (a .rates) (a .distortions) (p .lengths) in
       record {
         some-scans = in-range (p .scans) .0;
         scans = in-range (p .scans) .1;
         some-settings = in-range (p .settings) .0;
         settings = in-range (p .settings) .1;
-        law-known = p .law;
-        rates-long = exact-lengths p .0;
-        distortions-long = exact-lengths p .1;
+        rates-long = l .0;
+        distortions-long = l .1;
         legal = s .legal;
         room = long-enough p .1;
       }
 
-  pub sound-plan : Sound fourth a → a .N ≤ a .plan
-  sound-plan s = long-enough (sound-passes s) .0
+  pub sound-plan : Sound further a → a .N ≤ a .plan
+  sound-plan s = long-enough (admitted (s .passed)) .0
 
-  pub sound-fourth : Sound fourth a → fourth ≡ false
-  sound-fourth s = sound-passes s .multiplier
+  pub sound-law : Sound further a → law-out (a .law) ≡ false
+  sound-law s = admitted (s .passed) .law
+
+  pub sound-further : Sound further a → further ≡ none
+  sound-further s = admitted (s .passed) .further-passed
+
+  -- the checks give one refusal, and none where they pass
+  pub unsound-unique : {r r′ : Refusal} → Unsound further a r → Unsound further a r′ → r ≡ r′
+  unsound-unique (early e) (early e′) = cc
+  unsound-unique (early e) (illegal e′ l) = never (cc)
+  unsound-unique (illegal e l) (early e′) = never (cc)
+  unsound-unique (illegal e l) (illegal e′ l′) = ap refusal.Cell (lowest-unique (a .rates) (a .distortions) l l′)
+
+  pub sound-or-not : {r : Refusal} → Unsound further a r → Sound further a → ⊥
+  sound-or-not (early e) s = let p = s .passed in never (cc)
+  sound-or-not (illegal e l) s = not-both (a .rates) (a .distortions) l (s .legal)
+
+-- a multiplier that passed check 4 is in its range
+pub multiplier-in : {n d : ℕ} → when (multiplier-out n d) refusal.Multiplier ≡ none → (n ≤ most-term) × ((1 ≤ d) × (d ≤ most-term))
+multiplier-in {n} {d} e =
+    let r = neither (ltb most-term n) (zero-or-over most-term d) (none-when (multiplier-out n d) refusal.Multiplier e) in
+    let i = in-range {most = most-term} {x = d} (r .1) in
+    (ltb-false most-term n (r .0), (i .0, i .1))
+
+-- what holds of the refusals 1, 2, 3, 5 and 6, and of those of the further check, holds of the first that is given
+pub early-gives : (P : Refusal → Type 0) (further : Option Refusal) (a : Asked) → P refusal.Scans → P refusal.Settings → P refusal.StepLaw →
+    Gives P further → P refusal.Lengths → P refusal.Buffer → Gives P (early-refusal further a)
+unfolding early-refusal
+early-gives P further a one two three f five six =
+    gives-first P (range-checks most-scans (a .N) (a .Q) (law-out (a .law)) ++ (further ∷ size-checks a)) (
+      gives-when P (scans-out (a .N)) refusal.Scans one,
+      (
+        gives-when P (settings-out (a .Q)) refusal.Settings two,
+        (
+          gives-when P (law-out (a .law)) refusal.StepLaw three,
+          (
+            f,
+            (
+              gives-when P (lengths-out (a .N) (a .Q) (a .rates) (a .distortions)) refusal.Lengths five,
+              (gives-when P (buffers-short (a .N) (a .Q) (a .plan) (a .scratch)) refusal.Buffer six, tt),
+            ),
+          ),
+        ),
+      ),
+    )

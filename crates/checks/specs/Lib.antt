@@ -1,6 +1,5 @@
--- When a call is refused: the checks in document 01's order.
+-- When a call is refused: the checks in document 01's order, and what passing them tells.
 pub mod Checks
 pub mod Planning
 pub mod Stages
-pub mod Checked
 pub mod Fit

@@ -2,18 +2,18 @@
 use mathlib.Core.Path.{_≡_}
 use mathlib.Core.Bool.{Bool, not, _||_}
 use mathlib.Core.Option.{Option, none, some}
-use mathlib.Core.List.{List, [], _∷_}
-use Prim.Native.Nat.{ℕ, _*_}
+use mathlib.Core.List.{List, [], _∷_, _++_}
+use Prim.Native.Nat.{ℕ}
 use lib.Dec.{eqb, ltb}
 use lib.ListN.{length}
 use Rattle.criteria.specs.Choice.{Problem}
 use Rattle.tables.specs.declared.refusal.Refusal.{Refusal}
 use Rattle.tables.specs.declared.refusal.Refusal.the-variants as refusal
 use Rattle.tables.specs.Limits.{most-scans, most-settings, most-term, most-channels}
-use Rattle.tables.specs.Tables.{cells, table, planning}
-use Rattle.tables.specs.Legal.{AllLegal, LowestIllegal}
-use Rattle.checks.specs.Checks.{zero-or-over, Check, first-refusal}
 use Rattle.tables.specs.Law.{law-out}
+use Rattle.tables.specs.Tables.{cells, scratch-need, table, planning}
+use Rattle.tables.specs.Legal.{AllLegal, LowestIllegal}
+use Rattle.checks.specs.Checks.{zero-or-over, when, first-refusal}
 
 -- 1: "N is 0 or over 1,024"
 abbrev pub scans-out : ℕ → Bool
@@ -33,11 +33,22 @@ lengths-out N Q rates distortions = not (eqb (length rates) (cells N Q)) || not 
 
 -- 6: "a lent buffer shorter than needed": "Plan buffers need N bytes and scratch N × Q"
 abbrev pub buffers-short : ℕ → ℕ → ℕ → ℕ → Bool
-buffers-short N Q plan scratch = ltb plan N || ltb scratch (N * Q)
+buffers-short N Q plan scratch = ltb plan N || ltb scratch (scratch-need N Q)
 
 -- 10: "C is 0 or over 1,048,576"
 abbrev pub channels-out : ℕ → Bool
 channels-out C = zero-or-over most-channels C
+
+-- 1, 2 and 3, where a call takes at most `most` scans and `lawless` says that the law is none of those that it takes
+abbrev pub range-checks : (most N Q : ℕ) (lawless : Bool) → List (Option Refusal)
+range-checks most N Q lawless =
+    when (zero-or-over most N) refusal.Scans ∷ when (settings-out Q) refusal.Settings ∷ when lawless refusal.StepLaw ∷ []
+
+-- "Planning checks in the order 1 to 9 (4 only for a multiplier call ..)": those that look at numbers and lengths. `further` is the check
+-- between 3 and 5 that a call may have; `lengths` and `buffers` say that 5 and 6 fail.
+abbrev pub planning-checks : (most N Q : ℕ) (lawless : Bool) → Option Refusal → (lengths buffers : Bool) → List (Option Refusal)
+planning-checks most N Q lawless further lengths buffers =
+    range-checks most N Q lawless ++ (further ∷ when lengths refusal.Lengths ∷ when buffers refusal.Buffer ∷ [])
 
 -- What a planning call is asked, but for its limit: the numbers, the tables and the lengths of the lent buffers.
 pub record Asked : Type 0 where
@@ -49,30 +60,29 @@ pub record Asked : Type 0 where
   pub plan : ℕ
   pub scratch : ℕ
 
+abbrev pub asking : (N Q law : ℕ) (rates distortions : List ℕ) (plan scratch : ℕ) → Asked
+asking N Q law rates distortions plan scratch =
+    record { N = N; Q = Q; law = law; rates = rates; distortions = distortions; plan = plan; scratch = scratch }
+
 abbrev pub problem-of : Asked → Problem
 problem-of a = planning (table (a .N) (a .Q) (a .law) (a .rates) (a .distortions))
 
--- "Planning checks in the order 1 to 9 (4 only for a multiplier call ..)": the six that look at numbers and lengths. `fourth` says whether
--- 4 applies and fails: `multiplier-out n d` for a multiplier call, false for every other.
-abbrev pub planning-checks : Bool → Asked → List Check
-planning-checks fourth a =
-    record { fails = scans-out (a .N); gives = refusal.Scans }
-    ∷ record { fails = settings-out (a .Q); gives = refusal.Settings }
-    ∷ record { fails = law-out (a .law); gives = refusal.StepLaw }
-    ∷ record { fails = fourth; gives = refusal.Multiplier }
-    ∷ record { fails = lengths-out (a .N) (a .Q) (a .rates) (a .distortions); gives = refusal.Lengths }
-    ∷ record { fails = buffers-short (a .N) (a .Q) (a .plan) (a .scratch); gives = refusal.Buffer }
-    ∷ []
+-- check 4 of a multiplier call; every other call has none there
+abbrev pub fourth-check : ℕ → ℕ → Option Refusal
+fourth-check n d = when (multiplier-out n d) refusal.Multiplier
 
-unfoldable pub early-refusal : Bool → Asked → Option Refusal
-early-refusal fourth a = first-refusal (planning-checks fourth a)
+-- the first refusal of the checks 1 to 6
+unfoldable pub early-refusal : Option Refusal → Asked → Option Refusal
+early-refusal further a =
+    first-refusal (planning-checks most-scans (a .N) (a .Q) (law-out (a .law)) further (lengths-out (a .N) (a .Q) (a .rates) (a .distortions))
+    (buffers-short (a .N) (a .Q) (a .plan) (a .scratch)))
 
 -- one of the checks 1 to 7 fails, and this is the refusal of the first that does
-pub data Unsound (fourth : Bool) (a : Asked) : Refusal → Type 0 where
-  early : {r : Refusal} → early-refusal fourth a ≡ some r → Unsound fourth a r
-  illegal : {k : ℕ} → early-refusal fourth a ≡ none → LowestIllegal (a .rates) (a .distortions) k → Unsound fourth a (refusal.Cell k)
+pub data Unsound (further : Option Refusal) (a : Asked) : Refusal → Type 0 where
+  early : {r : Refusal} → early-refusal further a ≡ some r → Unsound further a r
+  illegal : {k : ℕ} → early-refusal further a ≡ none → LowestIllegal (a .rates) (a .distortions) k → Unsound further a (refusal.Cell k)
 
 -- none of the checks 1 to 7 fails
-pub record Sound (fourth : Bool) (a : Asked) : Type 0 where
-  pub passed : early-refusal fourth a ≡ none
+pub record Sound (further : Option Refusal) (a : Asked) : Type 0 where
+  pub passed : early-refusal further a ≡ none
   pub legal : AllLegal (a .rates) (a .distortions)

@@ -1,12 +1,15 @@
--- How a stage ends. "Reading takes header, then entries, and stops at the first refusal." Assumes nothing.
+-- How the checks of a call end, in code. Assumes nothing.
 use mathlib.Core.Option.{Option, none, some}
-use mathlib.Core.List.{[]}
+use mathlib.Core.List.{List, []}
+use Prim.Native.Nat.{ℕ}
 use Rattle.tables.specs.declared.refusal.Refusal.{Refusal}
 use Rattle.tables.specs.declared.refusal.Refusal.the-variants as refusal
 use Rattle.tables.specs.Refusals.{Reply}
-use Rattle.checks.specs.Checks.{or-answer}
+use Rattle.tables.specs.Legal.{AllLegal, LowestIllegal}
 use Rattle.checks.specs.declared.stage.Stage.{Stage}
 use Rattle.checks.specs.declared.stage.Stage.the-variants.{Passed, Stopped}
+use Rattle.checks.specs.Checks.{or-answer}
+use Rattle.checks.specs.Planning.{Asked, Unsound, Sound}
 
 -- the refusal of a stage, if it has one
 abbrev pub ended : Stage → Option Refusal
@@ -21,3 +24,13 @@ stage-reply s = or-answer (ended s) []
 abbrev pub why-of : Stage → Refusal
 why-of Passed = refusal.FileLength
 why-of (Stopped r) = r
+
+-- what the checks 1 to 7 answer
+abbrev pub CheckedAs : Option Refusal → Asked → Stage → Type 0
+CheckedAs further a Passed = Sound further a
+CheckedAs further a (Stopped r) = Unsound further a r
+
+-- check 7 alone
+pub data CellsChecked (rates distortions : List ℕ) : Stage → Type 0 where
+  all-legal : AllLegal rates distortions → CellsChecked rates distortions Passed
+  not-legal : {k : ℕ} → LowestIllegal rates distortions k → CellsChecked rates distortions (Stopped (refusal.Cell k))

@@ -1,23 +1,21 @@
-// The checks 1 to 7, in document 01's order.
-use crate::range::law_outside;
-use crate::range::outside;
+// The checks 1 to 7 of a planning call, in document 01's order.
+use crate::range::ranges;
+use crate::stage::Stage;
+use crate::stage::then;
+use crate::stage::unless;
 use legal::Legality;
 use legal::judge;
 use tables::cells::count;
+use tables::cells::scratch_need;
+use tables::law::unknown;
 use tables::limits::MOST_SCANS;
-use tables::limits::MOST_SETTINGS;
 use tables::refusal::Refusal;
 ghost use mathlib.Core.Path.{_≡_};
 ghost use mathlib.Core.Bool.{not, _||_};
-ghost use Prim.Native.Nat.{_*_};
 ghost use lib.Dec.{eqb, ltb};
 ghost use lib.ListN.{length};
-ghost use Rattle.checks.specs.Checked.{CheckedAs, CellsChecked, asking};
-
-pub enum Checked {
-    Sound,
-    Refused(Refusal),
-}
+ghost use Rattle.checks.specs.Planning.{asking};
+ghost use Rattle.checks.specs.Stages.{ended, CheckedAs, CellsChecked};
 
 // 5: not both of this length.
 fn wrong_lengths(cells: usize, rates: usize, distortions: usize) -> bool
@@ -30,58 +28,60 @@ fn wrong_lengths(cells: usize, rates: usize, distortions: usize) -> bool
 }
 
 // 6: a buffer shorter than needed.
-fn too_short(scans: usize, room: usize, plan: usize, scratch: usize) -> bool
-    ensures { λ r. ⌜ r ≡ (ltb plan scans || ltb scratch room) ⌝ }
+fn too_short(scans: usize, need: usize, plan: usize, scratch: usize) -> bool
+    ensures { λ r. ⌜ r ≡ (ltb plan scans || ltb scratch need) ⌝ }
 {
     if plan < scans {
         return true;
     }
-    scratch < room
+    scratch < need
 }
 
 // 7: the legality of every cell.
-fn check_cells(rates: &[u32], distortions: &[u32]) -> Checked
+fn check_cells(rates: &[u32], distortions: &[u32]) -> Stage
     requires { ⌜ length (now distortions) ≡ length (now rates) ⌝ }
     ensures { λ r. ⌜ CellsChecked (now (rates .entry)) (now (distortions .entry)) r ⌝ }
 {
     let verdict = judge(rates, distortions);
     let Legality::Illegal(k) = verdict else {
-        return Checked::Sound;
+        return Stage::Passed;
     };
-    Checked::Refused(Refusal::Cell(k as u64))
+    Stage::Stopped(Refusal::Cell(k as u64))
 }
 
-// `fourth` is check 4 of a multiplier call, and false for every other call. `plan` and `scratch` are the lengths of the lent buffers.
+// `further` is the check that a call has between 3 and 5. `plan` and `scratch` are the lengths of the lent buffers.
 pub fn check(
     scans: u64,
     settings: u64,
     law: u64,
-    fourth: bool,
+    further: Stage,
     rates: &[u32],
     distortions: &[u32],
     plan: usize,
     scratch: usize,
-) -> Checked
-    ensures { λ r. ⌜ CheckedAs fourth (asking scans settings law (now (rates .entry)) (now (distortions .entry)) plan scratch) r ⌝ }
+) -> Stage
+    ensures { λ r. ⌜ CheckedAs (ended further) (asking scans settings law (now (rates .entry)) (now (distortions .entry)) plan scratch) r ⌝ }
 {
-    if outside(MOST_SCANS, scans) {
-        return Checked::Refused(Refusal::Scans);
-    }
-    if outside(MOST_SETTINGS, settings) {
-        return Checked::Refused(Refusal::Settings);
-    }
-    if law_outside(law) {
-        return Checked::Refused(Refusal::StepLaw);
-    }
-    if fourth {
-        return Checked::Refused(Refusal::Multiplier);
-    }
+    let ranged = ranges(MOST_SCANS, scans, settings, unknown(law));
+    let Stage::Passed = ranged else {
+        return ranged;
+    };
+    let Stage::Passed = further else {
+        return further;
+    };
     let cells = count(scans, settings) as usize;
-    if wrong_lengths(cells, rates.len(), distortions.len()) {
-        return Checked::Refused(Refusal::Lengths);
-    }
-    if too_short(scans as usize, (scans * settings) as usize, plan, scratch) {
-        return Checked::Refused(Refusal::Buffer);
-    }
+    let fifth = unless(
+        wrong_lengths(cells, rates.len(), distortions.len()),
+        Refusal::Lengths,
+    );
+    let need = scratch_need(scans, settings) as usize;
+    let sixth = then(
+        fifth,
+        too_short(scans as usize, need, plan, scratch),
+        Refusal::Buffer,
+    );
+    let Stage::Passed = sixth else {
+        return sixth;
+    };
     check_cells(rates, distortions)
 }

@@ -1,10 +1,14 @@
 // Numbers out of their range.
+use crate::stage::Stage;
+use crate::stage::then;
+use crate::stage::unless;
+use tables::limits::MOST_SETTINGS;
 use tables::limits::MOST_TERM;
+use tables::refusal::Refusal;
 ghost use mathlib.Core.Path.{_≡_};
-ghost use Prim.Native.Nat.{_<_};
-ghost use Rattle.checks.specs.Checks.{«zero-or-over»};
-ghost use Rattle.tables.specs.Law.{«law-out»};
-ghost use Rattle.checks.specs.Planning.{«multiplier-out»};
+ghost use Rattle.checks.specs.Checks.{«zero-or-over», «first-refusal»};
+ghost use Rattle.checks.specs.Planning.{«multiplier-out», «range-checks»};
+ghost use Rattle.checks.specs.Stages.{ended};
 
 // Is the number outside 1 to most?
 pub fn outside(most: u64, x: u64) -> bool
@@ -16,16 +20,6 @@ pub fn outside(most: u64, x: u64) -> bool
     most < x
 }
 
-// 3: law is not 0 or 1.
-pub fn law_outside(law: u64) -> bool
-    ensures { λ r. ⌜ r ≡ law-out law ⌝ }
-{
-    if law == 0 {
-        return false;
-    }
-    law != 1
-}
-
 // 4: n or d outside its range.
 pub fn multiplier_outside(n: u64, d: u64) -> bool
     ensures { λ r. ⌜ r ≡ multiplier-out n d ⌝ }
@@ -34,4 +28,13 @@ pub fn multiplier_outside(n: u64, d: u64) -> bool
         return true;
     }
     outside(MOST_TERM, d)
+}
+
+// 1, 2 and 3, where at most `most` scans are taken; `lawless` says that the law is none of those that the call takes.
+pub fn ranges(most: u64, scans: u64, settings: u64, lawless: bool) -> Stage
+    ensures { λ r. ⌜ ended r ≡ first-refusal (range-checks most scans settings lawless) ⌝ }
+{
+    let first = unless(outside(most, scans), Refusal::Scans);
+    let second = then(first, outside(MOST_SETTINGS, settings), Refusal::Settings);
+    then(second, lawless, Refusal::StepLaw)
 }

@@ -1,4 +1,4 @@
-// How a stage ends.
+// How a stage of checks ends.
 use tables::refusal::Refusal;
 ghost use mathlib.Core.Path.{_≡_};
 ghost use Rattle.checks.specs.Checks.{«or-else», when};

@@ -6,6 +6,7 @@ use native.Mathlib.Nat.{mul-le-mul-left, mul-lt-mul-of-pos-left, le-of-mul-le-mu
 use native.Mathlib.Decide.{decLe, decLt}
 use native.Mathlib.Omega.{arith}
 use Rattle.criteria.specs.Order.{Then, lower, tie}
+use Rattle.criteria.specs.Found.{Certificate, at-zero, tied}
 use Rattle.criteria.specs.Choice.{Problem, Multiplier, Average, Floor, cost}
 use Rattle.criteria.proofs.Order.{then-le}
 use Rattle.criteria.proofs.Fraction.{rearrange, rearrange-strict}
@@ -55,12 +56,7 @@ module _ (P : Problem) where
   least-distortion {n = n} {d = d} a n′ d′ {s′} k p′ h =
       distortion-rises n d n′ d′ (a .lowest .whole) (a .plan) p′ (a .least n′ d′ s′ k p′ h)
 
-  -- why no multiplier below n/d has a plan that fits B: n is zero, or an allowed sequence over B ties with the plan
-  pub data Certificate (n d B : ℕ) (s : List ℕ) : Type 0 where
-    at-zero : n ≡ 0 → Certificate n d B s
-    tied : (t : List ℕ) → P .allowed t → B < P .rate t → cost P n d t ≡ cost P n d s → Certificate n d B s
-
-  pub certified : {n d B : ℕ} {s : List ℕ} → Certificate n d B s → Multiplier P n d s →
+  pub certified : {n d B : ℕ} {s : List ℕ} → Certificate P n d B s → Multiplier P n d s →
       (n′ d′ : ℕ) (s′ : List ℕ) → 1 ≤ d′ → Multiplier P n′ d′ s′ → P .rate s′ ≤ B → n * d′ ≤ n′ * d
   certified (at-zero e) p n′ d′ s′ k p′ h = rw e (omega arith)
   certified {n} {d} {B} {s} (tied t a above e) p n′ d′ s′ k p′ h = by-order (decLe (n * d′) (n′ * d))
@@ -82,12 +78,12 @@ module _ (P : Problem) where
       le-of-mul-le-mul-left {k = d} (omega (arith, h, mul-le-mul-left d (cheapest n′ d′ p′ t a), mul-le-mul-left d′ f)) k
 
   -- (iii) no multiplier proves a higher floor than the certified one
-  pub floor-most : (n d B F : ℕ) {s : List ℕ} → 1 ≤ d → Multiplier P n d s → P .rate s ≤ B → Certificate n d B s →
+  pub floor-most : (n d B F : ℕ) {s : List ℕ} → 1 ≤ d → Multiplier P n d s → P .rate s ≤ B → Certificate P n d B s →
       Floor n d B (P .distortion s) (P .rate s) F →
       (n′ d′ : ℕ) {s′ : List ℕ} → Multiplier P n′ d′ s′ → cost P n′ d′ s′ ≤ d′ * F + n′ * B
   floor-most n d B F {s} k p h c f n′ d′ {s′} p′ = by-order (decLe (n * d′) (n′ * d)) c
     where
-      by-order : Dec (n * d′ ≤ n′ * d) → Certificate n d B s → cost P n′ d′ s′ ≤ d′ * F + n′ * B
+      by-order : Dec (n * d′ ≤ n′ * d) → Certificate P n d B s → cost P n′ d′ s′ ≤ d′ * F + n′ * B
       by-order (yes g) c = other n d B F n′ d′ k (f .holds) (p .one) p′ (omega (arith, rearrange (n * d′) (n′ * d) (P .rate s) B g h))
       by-order (no g) (at-zero e) = absurd (g (rw e (omega arith)))
       by-order (no g) (tied t a above e) = other n d B F n′ d′ k (omega (arith, f .holds, e)) a p′

@@ -12,7 +12,8 @@ use Rattle.criteria.specs.Fraction.{gcd, Lowest}
 use Rattle.criteria.specs.Choice.{Problem, Ceiling, Multiplier, Average, AverageFloor, Minmax, NoneWithin, Floor, cost}
 use Rattle.criteria.proofs.Order.{Ahead}
 use Rattle.criteria.proofs.Fraction.{lowest-gcd}
-use Rattle.criteria.proofs.Bound.{Certificate, at-zero, tied, certified}
+use Rattle.criteria.specs.Found.{Certificate, at-zero, tied}
+use Rattle.criteria.proofs.Bound.{certified}
 use Rattle.criteria.proofs.Finite.{Finite, member}
 use Rattle.criteria.proofs.Decide.{dec-×}
 

@@ -3,7 +3,8 @@ use mathlib.Core.List.{List}
 use Prim.Native.Nat.{ℕ, _+_, _*_, _≤_}
 use Rattle.criteria.specs.Choice.{Problem, Multiplier, Average, AverageFloor, cost}
 use Rattle.criteria.specs.Demand.{Demand}
-use Rattle.criteria.proofs.Bound.{Certificate, certificate, floor-below, floor-most, gap, least-distortion}
+use Rattle.criteria.specs.Found.{Certificate}
+use Rattle.criteria.proofs.Bound.{certificate, floor-below, floor-most, gap, least-distortion}
 use Rattle.criteria.proofs.Finite.{Finite, bound, bound-is}
 use Rattle.criteria.proofs.Exist.{some-plan}
 

@@ -11,7 +11,8 @@ use Rattle.criteria.specs.Passes.{Thriftiest, Passes, none-allowed, none
 use Rattle.criteria.proofs.Order.{then-le}
 use Rattle.criteria.proofs.Finite.{Finite, some-best, some-or-none}
 use Rattle.criteria.proofs.Decide.{dec-×}
-use Rattle.criteria.proofs.Passes.{thrifty, search-ends, passes-average}
+use Rattle.criteria.specs.Found.{thrifty}
+use Rattle.criteria.proofs.Passes.{search-ends, passes-average}
 
 module _ (P : Problem) (fin : Finite P) where
   -- if some sequence is allowed, every multiplier has its plan

@@ -81,9 +81,6 @@ gcd-enough (suc k) (suc k′) a (suc b) h h′ =
     let r = mod-lt a {m = suc b} (omega arith) in
     gcd-enough k k′ (suc b) (a % suc b) (omega arith) (omega arith)
 
-pub gcd-zero : (a : ℕ) → gcd a 0 ≡ a
-gcd-zero a = refl
-
 pub gcd-rule : (a b : ℕ) → 1 ≤ b → gcd a b ≡ gcd b (a % b)
 gcd-rule a zero h = absurd (omega arith)
 gcd-rule a (suc b) h =

@@ -8,23 +8,18 @@ use native.Mathlib.Decide.{decLe, decLt}
 use native.Mathlib.Omega.{arith}
 use Rattle.criteria.specs.Fraction.{gcd}
 use Rattle.criteria.specs.Choice.{Problem, InBudget, Multiplier, Average, cost}
-use Rattle.criteria.specs.Passes.{Slope, Slopes, last, fitting, over, Thriftiest, Passes, none-allowed, none-fits, zero-fits, by-slopes}
+use Rattle.criteria.specs.Found.{at-zero, tied, Origin, thrifty, planned, Ended}
+use Rattle.criteria.specs.Passes.{Slope, Slopes, last, fitting, over, Passes, none-allowed, none-fits, zero-fits, by-slopes}
 use Rattle.criteria.proofs.Order.{then-le, then-tie, best-unique}
-use Rattle.criteria.proofs.Bound.{cheapest, rate-falls, Certificate, at-zero, tied}
+use Rattle.criteria.proofs.Bound.{cheapest, rate-falls}
 use Rattle.criteria.proofs.Reduce.{average-reduced}
 
 module _ (P : Problem) where
   ends-tie : {lo hi t : List ℕ} {n d : ℕ} → Slope P lo hi n d t → cost P n d hi ≡ cost P n d lo
   ends-tie {n = n} {d = d} l = omega (arith, ap (λ (x : ℕ). d * x) (l .fall), ap (λ (x : ℕ). n * x) (l .rise))
 
-  pub record Ended (B n d : ℕ) (s : List ℕ) : Type 0 where
-    pub whole : 1 ≤ d
-    pub plan : Multiplier P n d s
-    pub fits : P .rate s ≤ B
-    pub certificate : Certificate P n d B s
-
   -- what the search ends with
-  pub slopes-end : {B n d k : ℕ} {s lo hi : List ℕ} → Slopes P B n d s lo hi k → P .allowed lo → P .rate lo ≤ B → P .allowed hi → B < P .rate hi → Ended B n d s
+  pub slopes-end : {B n d k : ℕ} {s lo hi : List ℕ} → Slopes P B n d s lo hi k → P .allowed lo → P .rate lo ≤ B → P .allowed hi → B < P .rate hi → Ended P B n d s
   slopes-end (last {lo} {hi} l e) a f a′ f′ = record {
     whole = omega (arith, l .rise);
     plan = l .plan;
@@ -46,13 +41,8 @@ module _ (P : Problem) where
   differs : (n d : ℕ) (x t : List ℕ) → (P .rate t ≤ P .rate x → P .distortion x ≤ P .distortion t) → cost P n d t < cost P n d x → P .rate x ≡ P .rate t → ⊥
   differs n d x t f c e = omega (arith, mul-le-mul-left d (f (omega arith)), ap (λ (y : ℕ). n * y) e)
 
-  -- where a plan of the search comes from
-  pub data Origin (x : List ℕ) : Type 0 where
-    thrifty : Thriftiest P x → Origin x
-    planned : (n d : ℕ) → 1 ≤ d → Multiplier P n d x → Origin x
-
   -- a plan at the slope, if it costs less, lies strictly between lo and hi
-  pub climbs : {lo hi t : List ℕ} {n d : ℕ} → Origin lo → P .allowed hi → Slope P lo hi n d t → 1 ≤ d → cost P n d t < cost P n d lo → P .rate lo < P .rate t
+  pub climbs : {lo hi t : List ℕ} {n d : ℕ} → Origin P lo → P .allowed hi → Slope P lo hi n d t → 1 ≤ d → cost P n d t < cost P n d lo → P .rate lo < P .rate t
   climbs {lo} {hi} {t} {n} {d} (thrifty b) a l k c =
       let r = then-le (b .ahead t (l .plan .one)) in
       let e : P .rate lo ≢ P .rate t = differs n d lo t (λ h. then-le (then-tie (b .ahead t (l .plan .one)) h)) c in
@@ -71,7 +61,7 @@ module _ (P : Problem) where
       let e : P .rate hi ≢ P .rate t = differs n d hi t (pareto n₂ d₂ k₂ p₂ t (l .plan .one)) (omega (arith, ends-tie l)) in
       omega arith
 
-  pub origin-allowed : {x : List ℕ} → Origin x → P .allowed x
+  pub origin-allowed : {x : List ℕ} → Origin P x → P .allowed x
   origin-allowed (thrifty b) = b .one
   origin-allowed (planned n d k p) = p .one
 
@@ -84,7 +74,7 @@ module _ (P : Problem) where
 
   -- the search ends: the rates draw together
   abbrev pub Search : ℕ → ℕ → Type 0
-  Search B fuel = (lo hi : List ℕ) → P .rate hi ≤ P .rate lo + fuel → Origin lo → P .rate lo ≤ B →
+  Search B fuel = (lo hi : List ℕ) → P .rate hi ≤ P .rate lo + fuel → Origin P lo → P .rate lo ≤ B →
       (n₂ d₂ : ℕ) → 1 ≤ d₂ → Multiplier P n₂ d₂ hi → B < P .rate hi → Outcome B lo hi
 
   module _ (some-plan : (n d : ℕ) → (s : List ℕ) × Multiplier P n d s) where

@@ -8,7 +8,8 @@ use Rattle.criteria.specs.Order.{Then, lower, tie}
 use Rattle.criteria.specs.Fraction.{gcd, Lowest}
 use Rattle.criteria.specs.Choice.{Problem, Multiplier, Average, cost}
 use Rattle.criteria.proofs.Fraction.{Divisor, gcd-is}
-use Rattle.criteria.proofs.Bound.{Certificate, at-zero, tied, certified}
+use Rattle.criteria.specs.Found.{Certificate, at-zero, tied}
+use Rattle.criteria.proofs.Bound.{certified}
 
 then-unscale : {a b : ℕ} {P : Type 0} (g : ℕ) → 1 ≤ g → Then (g * a) (g * b) P → Then a b P
 then-unscale g h (lower l) = lower (lt-of-mul-lt-mul-left g l)

@@ -7,7 +7,7 @@ use native.Mathlib.Omega.{arith}
 use Rattle.criteria.specs.Fraction.{Lowest}
 use Rattle.criteria.specs.Choice.{Problem, Average}
 use Rattle.criteria.proofs.Fraction.{lowest-divides}
-use Rattle.criteria.proofs.Bound.{Certificate, at-zero, tied}
+use Rattle.criteria.specs.Found.{Certificate, at-zero, tied}
 
 -- a fraction in lowest terms is no greater, part by part, than one that it equals
 lowest-least : {n d : ℕ} (x y : ℕ) → Lowest n d → n * y ≡ d * x → 0 < x → 0 < y → (n ≤ x) × (d ≤ y)

@@ -5,3 +5,4 @@ pub mod Fraction
 pub mod Choice
 pub mod Demand
 pub mod Passes
+pub mod Found

@@ -1,6 +1,10 @@
 // The rule of an entry, and the first entry that breaks it.
+ghost use Rattle.tables.specs.Limits.{«most-scans»};
+ghost use Rattle.blocks.specs.Sizes.{«block-size», «block-entries», «short-file», «long-file»};
 use blocks::packed::get;
-use bytes::numbers::wide;
+use blocks::sizes::BLOCK;
+use blocks::sizes::ENTRIES;
+use bytes::cast::byte_to_number;
 use checks::stage::Stage;
 use tables::law::keeps;
 use tables::refusal::Refusal;
@@ -31,14 +35,14 @@ fn entry_wrong(scans: u64, settings: u64, law: u64, j: u64, before: u64, setting
 
 // All entries of a file's data blocks, the fillers too.
 pub fn check_file(file: &[u8], scans: u64, settings: u64, law: u64) -> Stage
-    requires { ⌜ (1024 ≤ length (now file)) × (length (now file) ≤ 1536) ⌝ }
-    ensures { λ r. ⌜ ended r ≡ found refusal.Entry (first-from (entry-broken scans settings law (entry-at (now (file .entry)))) 0 (1008 * (length (now (file .entry)) / 512 - 1))) ⌝ }
+    requires { ⌜ (short-file ≤ length (now file)) × (length (now file) ≤ long-file) ⌝ }
+    ensures { λ r. ⌜ ended r ≡ found refusal.Entry (first-from (entry-broken scans settings law (entry-at (now (file .entry)))) 0 (block-entries * (length (now (file .entry)) / block-size - 1))) ⌝ }
 {
-    let count = 1008 * (file.len() / 512 - 1);
-    let mut before = wide(get(file, 0));
+    let count = ENTRIES * (file.len() / BLOCK - 1);
+    let mut before = byte_to_number(get(file, 0));
     let mut j = 0;
     while j < count {
-        let setting = wide(get(file, j));
+        let setting = byte_to_number(get(file, j));
         if entry_wrong(scans, settings, law, j as u64, before, setting) {
             return Stage::Stopped(Refusal::Entry(j as u64));
         }
@@ -50,13 +54,13 @@ pub fn check_file(file: &[u8], scans: u64, settings: u64, law: u64) -> Stage
 
 // The settings that are to be written.
 pub fn check_settings(list: &[u8], scans: usize, settings: u64, law: u64) -> Stage
-    requires { ⌜ (1 ≤ scans) × ((scans ≤ 1024) × (scans ≤ length (now list))) ⌝ }
+    requires { ⌜ (1 ≤ scans) × ((scans ≤ most-scans) × (scans ≤ length (now list))) ⌝ }
     ensures { λ r. ⌜ ended r ≡ found refusal.Entry (first-from (entry-broken scans settings law (λ j. getD (now (list .entry)) j 0)) 0 scans) ⌝ }
 {
-    let mut before = wide(list[0]);
+    let mut before = byte_to_number(list[0]);
     let mut j = 0;
     while j < scans {
-        let setting = wide(list[j]);
+        let setting = byte_to_number(list[j]);
         if entry_wrong(scans as u64, settings, law, j as u64, before, setting) {
             return Stage::Stopped(Refusal::Entry(j as u64));
         }

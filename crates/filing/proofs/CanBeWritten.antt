@@ -1,9 +1,9 @@
 -- Every plan that the planner gives can be written, and what is written reads back. Assumes nothing.
 use mathlib.Core.Path.{_≡_, refl, ap, _∙_}
-use mathlib.Core.Bool.{Bool, true, false}
+use mathlib.Core.Bool.{Bool, false}
 use mathlib.Core.Option.{Option, none}
 use mathlib.Core.List.{List, [], _∷_, _++_}
-use Prim.Native.Nat.{ℕ, zero, suc, _+_, _-_, _^_, _≤_, _<_}
+use Prim.Native.Nat.{ℕ, zero, suc, _-_, _^_, _≤_, _<_}
 use native.Mathlib.Nat.{le-refl, mul-le-mul-left}
 use native.Mathlib.Omega.{arith}
 use lib.Dec.{ltb}
@@ -22,11 +22,11 @@ use Rattle.tables.specs.Series.{Kept, total, largest}
 use Rattle.tables.specs.Tables.{Table, table, series}
 use Rattle.tables.specs.Law.{law-of}
 use Rattle.checks.specs.Planning.{Asked, Sound, problem-of, scans-out, settings-out}
-use Rattle.checks.specs.Checks.{zero-or-over, when, or-else}
+use Rattle.checks.specs.Checks.{zero-or-over, when}
 use Rattle.tables.proofs.RefusalLaws.{answered-or-refused}
 use Rattle.tables.proofs.SeriesLaws.{kept-below}
-use Rattle.tables.proofs.Totals.{average-in-limits}
-use Rattle.tables.proofs.Listing.{law?}
+use Rattle.tables.proofs.Bounds.{average-in-limits}
+use Rattle.tables.proofs.LawLaws.{law?, law-kept}
 use Rattle.checks.specs.Fit.{Fit}
 use Rattle.checks.proofs.FitLaws.{fit-legal}
 use Rattle.promise.specs.declared.AveragePlan.{AveragePlan}
@@ -34,14 +34,14 @@ use Rattle.promise.specs.declared.MinmaxPlan.{MinmaxPlan}
 use Rattle.promise.specs.declared.AverageAnswer.the-variants as average-answer
 use Rattle.promise.specs.declared.MinmaxAnswer.the-variants as minmax-answer
 use Rattle.promise.specs.Promise.{unsound, no-sequence, none-within, planned, IsAveragePlan, IsMinmaxPlan, AveragePromise, MinmaxPromise}
-use Rattle.checks.proofs.PlanningLaws.{sound-fit}
+use Rattle.checks.proofs.PlanningLaws.{sound-fit, sound-law}
 use Rattle.seek.proofs.SeekLaws.{sums-small, peak-fits}
 use Rattle.rules.specs.declared.Fields.{Fields}
 use Rattle.blocks.specs.File.{file-length}
-use Rattle.entries.specs.Entries.{law-broken, entry-broken}
+use Rattle.entries.specs.Entries.{entry-broken}
 use Rattle.rules.specs.Rules.{n-broken, d-broken, rate-broken, peak-broken}
-use Rattle.planfile.specs.Writing.{no-marks, write-refusal}
-use Rattle.checks.proofs.CheckLaws.{none-first}
+use Rattle.planfile.specs.Writing.{no-faults, write-refusal}
+use Rattle.checks.proofs.CheckLaws.{else-nothing, none-first}
 use Rattle.planfile.proofs.Back.{settings-back, fields-back, read-back}
 use Rattle.filing.specs.Filing.{average-fields, minmax-fields, ReadsBack}
 
@@ -87,12 +87,6 @@ largest-at-most : (f : ℕ → ℕ → ℕ → ℕ) (i p : ℕ) (s : List ℕ) �
 largest-at-most f i p [] = omega arith
 largest-at-most f i p (q ∷ s) = omega (arith, largest-at-most f (suc i) q s)
 
--- a step that the law allows does not break it
-law-kept : (law p q : ℕ) → law-of law p q → law-broken law p q ≡ false
-law-kept zero p q h = refl
-law-kept (suc zero) p q h = rw (le-ltb (p + 2) q (h .1), le-ltb (q + 2) p (h .0)) refl
-law-kept (suc (suc k)) p q h = absurd h
-
 -- in an allowed sequence each setting keeps the law with the one before
 steps-kept : (t : Table) (i p : ℕ) (s : List ℕ) → Kept (series t) i p s → (j : ℕ) → suc j < length s →
     t .law (getD s j 0) (getD s (suc j) 0)
@@ -115,29 +109,25 @@ later-kept N Q law e j h g l =
     rw (lt-ltb (suc j) N h, lt-ltb (e (suc j)) Q g, lt-ltb 0 (suc j) (omega arith), p, law-kept law (e j) (e (suc j)) l) refl
 
 -- where every rule is kept, the writer refuses for want of room alone
-only-room : (f : Fields) (settings : List ℕ) (room : ℕ) → RulesHold no-marks f → f .scans ≤ length settings →
+only-room : (f : Fields) (settings : List ℕ) (room : ℕ) → RulesHold no-faults f → f .scans ≤ length settings →
     ((j : ℕ) → j < f .scans → entry-broken (f .scans) (f .settings) (f .law) (λ j. getD settings j 0) j ≡ false) →
     write-refusal f settings room ≡ when (ltb room (file-length (f .scans))) refusal.Buffer
 unfolding write-refusal
 only-room f settings room k h g =
     rw (
-      rules-pass no-marks f k,
+      rules-pass no-faults f k,
       le-ltb (length settings) (f .scans) h,
       none-first (f .scans) (entry-broken (f .scans) (f .settings) (f .law) (λ j. getD settings j 0)) 0 (λ i l b. g i (omega arith)),
     )
-    (last (ltb room (file-length (f .scans))))
-  where
-    last : (t : Bool) → or-else (when t refusal.Buffer) none ≡ when t refusal.Buffer
-    last true = refl
-    last false = refl
+    (else-nothing (when (ltb room (file-length (f .scans))) refusal.Buffer))
 
 -- the table of a call
 abbrev table-of : Asked → Table
 table-of a = table (a .N) (a .Q) (a .law) (a .rates) (a .distortions)
 
-module _ {a : Asked} (o : Sound false a) where
+module _ {a : Asked} (o : Sound none a) where
   -- what a call that passed the checks has
-  fit : Fit (a .N) (a .Q) (a .law) (a .rates) (a .distortions) (a .scratch)
+  fit : Fit (a .N) (a .Q) (a .rates) (a .distortions) (a .scratch)
   fit = sound-fit o
 
   -- N is in its range
@@ -148,7 +138,7 @@ module _ {a : Asked} (o : Sound false a) where
   count-kept : settings-out (a .Q) ≡ false
   count-kept = in-range-kept most-settings (a .Q) (fit .some-settings) (fit .settings)
 
-module _ {a : Asked} (o : Sound false a) (s : List ℕ) (ok : problem-of a .allowed s) where
+module _ {a : Asked} (o : Sound none a) (s : List ℕ) (ok : problem-of a .allowed s) where
   -- the settings are below Q, whatever stands after them
   setting-below : (rest : List ℕ) (j : ℕ) → j < a .N → getD (s ++ rest) j 0 < a .Q
   setting-below rest j h =
@@ -173,32 +163,32 @@ module _ {a : Asked} (o : Sound false a) (s : List ℕ) (ok : problem-of a .allo
 
   -- the rate of the sequence is within the limit
   rate-limit : problem-of a .rate s ≤ most-total
-  rate-limit = sums-small (fit o) s ok .1
+  rate-limit = sums-small (a .law) (fit o) s ok .1
 
   -- and so is its distortion
   distortion-limit : problem-of a .distortion s ≤ most-total
-  distortion-limit = sums-small (fit o) s ok .0
+  distortion-limit = sums-small (a .law) (fit o) s ok .0
 
   -- and its peak
   peak-limit : problem-of a .peak s ≤ most-cell
-  peak-limit = peak-fits (fit o) s ok
+  peak-limit = peak-fits (a .law) (fit o) s ok
 
   -- the peak is at most the distortion
   peak-below : problem-of a .peak s ≤ problem-of a .distortion s
   peak-below = largest-at-most (series (table-of a) .distortion) 0 0 s
 
-module _ {a : Asked} (o : Sound false a) {B : ℕ} {s v : List ℕ} (q : IsAveragePlan (problem-of a) B s v) where
+module _ {a : Asked} (o : Sound none a) {B : ℕ} {s v : List ℕ} (q : IsAveragePlan (problem-of a) B s v) where
   -- the sequence is allowed
   average-allowed : problem-of a .allowed s
   average-allowed = q .plan .plan .one
 
   -- n and d are within the limits
   average-limits : (q .n ≤ most-term) × (1 ≤ q .d) × (q .d ≤ most-term)
-  average-limits = average-in-limits (table-of a) (fit-legal (fit o)) (law? (a .law)) (q .plan)
+  average-limits = average-in-limits (table-of a) (fit-legal {t = table-of a} (fit o)) (law? (a .law)) (q .plan)
 
   -- the fields of a plan with these values keep their rules
   average-rules : (m : AveragePlan) → m .n ∷ m .d ∷ m .totals .rate .0 ∷ m .totals .distortion .0 ∷ m .totals .peak ∷ m .floor .0 ∷ [] ≡ v →
-      RulesHold no-marks (average-fields (a .N) (a .Q) (a .law) B m)
+      RulesHold no-faults (average-fields (a .N) (a .Q) (a .law) B m)
   average-rules m e =
       let ok = average-allowed in
       let z = e ∙ q .values in
@@ -213,7 +203,7 @@ module _ {a : Asked} (o : Sound false a) {B : ℕ} {s v : List ℕ} (q : IsAvera
         letters = refl;
         scans = rw (scans-kept o) refl;
         settings = count-kept o;
-        law = fit o .law-known;
+        law = sound-law o;
         kind = refl;
         run-13 = refl;
         n = rw (en, ed) (n-kept (q .n) (q .d) (b .0) (b .2) (q .plan .lowest));
@@ -226,14 +216,14 @@ module _ {a : Asked} (o : Sound false a) {B : ℕ} {s v : List ℕ} (q : IsAvera
         run-48 = refl;
       }
 
-module _ {a : Asked} (o : Sound false a) {B : ℕ} {s v : List ℕ} (q : IsMinmaxPlan (problem-of a) B s v) where
+module _ {a : Asked} (o : Sound none a) {B : ℕ} {s v : List ℕ} (q : IsMinmaxPlan (problem-of a) B s v) where
   -- the sequence is allowed
   minmax-allowed : problem-of a .allowed s
   minmax-allowed = q .plan .plan .one .0
 
   -- the fields of a plan with these values keep their rules
   minmax-rules : (m : MinmaxPlan) → m .ceiling ∷ m .totals .rate .0 ∷ m .totals .distortion .0 ∷ m .totals .peak ∷ [] ≡ v →
-      RulesHold no-marks (minmax-fields (a .N) (a .Q) (a .law) B m)
+      RulesHold no-faults (minmax-fields (a .N) (a .Q) (a .law) B m)
   minmax-rules m e =
       let ok = minmax-allowed in
       let z = e ∙ q .values in
@@ -244,7 +234,7 @@ module _ {a : Asked} (o : Sound false a) {B : ℕ} {s v : List ℕ} (q : IsMinma
         letters = refl;
         scans = rw (scans-kept o) refl;
         settings = count-kept o;
-        law = fit o .law-known;
+        law = sound-law o;
         kind = refl;
         run-13 = refl;
         n = none-kept .0;
@@ -257,8 +247,8 @@ module _ {a : Asked} (o : Sound false a) {B : ℕ} {s v : List ℕ} (q : IsMinma
       }
 
 -- a sequence of a sound call, handed over with fields that keep their rules
-handed-written : {a : Asked} → Sound false a → (s : List ℕ) → problem-of a .allowed s → (f : Fields) → f .scans ≡ a .N →
-    f .settings ≡ a .Q → f .law ≡ a .law → RulesHold no-marks f → (rest : List ℕ) (room : ℕ) →
+handed-written : {a : Asked} → Sound none a → (s : List ℕ) → problem-of a .allowed s → (f : Fields) → f .scans ≡ a .N →
+    f .settings ≡ a .Q → f .law ≡ a .law → RulesHold no-faults f → (rest : List ℕ) (room : ℕ) →
     write-refusal f (s ++ rest) room ≡ when (ltb room (file-length (a .N))) refusal.Buffer
 handed-written o s ok f en eq el k rest room =
     rw (← en)

@@ -78,7 +78,7 @@ raised x y h l =
     let m = mod-lt (most-total - x) {m = y} h in
     record { far = omega arith; near = omega arith }
 
--- the fraction just above is at most-total one step up
+-- the numerator of the fraction just above is at most one step up
 pub near-up : {n d g n₀ d₀ n′ d′ : ℕ} → Beside n d g n₀ d₀ n′ d′ → n′ ≤ n₀ + 1
 near-up {n₀ = n₀} {d₀ = d₀} {n′ = n′} {d′ = d′} b =
     le-of-mul-le-mul-left {k = d₀} (omega (arith, b .beside, b .inside, mul-le-mul-left {m = d′} {n = d₀} n₀ (omega (arith, b .inside)))) (omega (arith, b .inside))

@@ -3,15 +3,14 @@ use mathlib.Core.Path.{_≡_, sym, ap}
 use mathlib.Core.Logic.{_↔_, _⊎_, inl, inr}
 use mathlib.Core.List.{List}
 use Prim.Native.Nat.{ℕ, zero, suc, _+_, _*_, _≤_, _<_}
-use native.Mathlib.Nat.{mul-le-mul-left, mul-le-mul-right, le-of-mul-le-mul-left, lt-of-mul-lt-mul-left, eq-of-mul-eq-mul-left}
+use native.Mathlib.Nat.{mul-le-mul-left, le-of-mul-le-mul-left, lt-of-mul-lt-mul-left, eq-of-mul-eq-mul-left}
 use native.Mathlib.Decide.{decLt}
 use native.Mathlib.Omega.{arith}
 use Rattle.criteria.specs.Order.{Then, lower, tie, Best}
 use Rattle.criteria.specs.Choice.{Problem, Multiplier, Ceiling, UnderCeiling}
-use Rattle.criteria.specs.Passes.{Thriftiest}
 use Rattle.criteria.proofs.Order.{then-le, then-tie}
 use Rattle.tables.specs.Limits.{most-total}
-use Rattle.keys.specs.OneKey.{Single, Near, Rising, Least, wide, rate-first}
+use Rattle.keys.specs.OneKey.{Single, Near, Rising, Least, rate-first}
 
 -- what is to be shown of a key: it goes up with k₁, and where k₁ stays, with k₂
 pub single : (L : ℕ) (k k₁ k₂ : ℕ → ℕ → ℕ) →
@@ -121,19 +120,6 @@ module _ (P : Problem) (L : ℕ) (small : (t : List ℕ) → P .allowed t → (P
   ceiling-by-key X a b h =
       one-for-two (UnderCeiling P X) L (P .distortion) (P .rate) (λ t w. small t (w .0)) (λ D R. a * D + b * R) (λ D R. R) (λ D R. D) h
 
-  pub thriftiest-by-key : (a b : ℕ) → Rising a b L → (s : List ℕ) →
-      Least (P .allowed) (λ t. a * P .distortion t + b * P .rate t) s ↔ Thriftiest P s
-  thriftiest-by-key a b h =
-      one-for-two (P .allowed) L (P .distortion) (P .rate) small (λ D R. a * D + b * R) (λ D R. R) (λ D R. D) h
-
 -- the weights of rates before distortions
 pub rates-first : Rising 1 rate-first most-total
 rates-first = rising rate-first most-total (omega arith)
-
--- a key with weights below 2 ^ 31 is below 2 ^ 62
-pub key-fits : {a b D R : ℕ} → a < wide → b < wide → D ≤ most-total → R ≤ most-total → a * D + b * R < 4611686018427387904
-key-fits {a} {b} {D} {R} ha hb hD hR = omega (
-  arith,
-  mul-le-mul-right {m = a} {n = 2147483647} D (omega arith),
-  mul-le-mul-right {m = b} {n = 2147483647} R (omega arith),
-)

@@ -20,14 +20,14 @@ abbrev pub Rising : ℕ → ℕ → ℕ → Type 0
 Rising a b L = Single L (λ D R. a * D + b * R) (λ D R. R) (λ D R. D)
 
 -- what a weight stays below: 31 bits
-abbrev pub wide : ℕ
-wide = 2147483648
+abbrev pub weight-bound : ℕ
+weight-bound = 2147483648
 
 -- weights of n/d
 pub record Weighed (n d a b : ℕ) : Type 0 where
   pub near : Near n d a b most-total
-  pub small-a : a < wide
-  pub small-b : b < wide
+  pub small-a : a < weight-bound
+  pub small-b : b < weight-bound
 
 -- the weight of a rate that counts before every distortion, beside the weight 1 of a distortion
 abbrev pub rate-first : ℕ

@@ -11,23 +11,23 @@ use Rattle.least.specs.declared.Rule.{Rule}
 use mathlib.Core.Bool.{Bool}
 use mathlib.Core.List.{List}
 use Prim.Native.Nat.{ℕ, _+_, _*_, _≤_, _<_}
-use Rattle.keys.specs.OneKey.{wide}
+use Rattle.keys.specs.OneKey.{weight-bound}
 
 -- 2 ^ 62, which no sequence costs
 abbrev pub no-way : ℕ
 no-way = 4611686018427387904
 
--- a choice that is forbidden, or over the ceiling
-abbrev pub shut-by : (ceiling rate distortion : ℕ) → Bool
-shut-by ceiling rate distortion = eqb rate forbidden || ltb ceiling distortion
+-- a choice that is forbidden, or whose plain distortion cell is over the ceiling
+abbrev pub shut-by : (ceiling rate plain : ℕ) → Bool
+shut-by ceiling rate plain = eqb rate forbidden || ltb ceiling plain
 
--- what a choice costs, by the rule's weights
-unfoldable pub price-of : Rule → (rate distortion : ℕ) → ℕ
-price-of rule rate distortion = cond (shut-by (rule .ceiling) rate distortion) no-way (rule .a * distortion + rule .b * rate)
+-- what a choice costs, by the rule's weights: of its rate and of the distortion that counts
+unfoldable pub price-of : Rule → (rate plain counted : ℕ) → ℕ
+price-of rule rate plain counted = cond (shut-by (rule .ceiling) rate plain) no-way (rule .a * counted + rule .b * rate)
 
 -- .. and with it what lies ahead of setting q
 abbrev pub candidate : Rule → (rates distortions keys : List ℕ) → ℕ → ℕ
-candidate rule rates distortions keys q = price-of rule (getD rates q 0) (getD distortions q 0) + getD keys q 0
+candidate rule rates distortions keys q = price-of rule (getD rates q 0) (getD distortions q 0) (getD distortions q 0) + getD keys q 0
 
 -- the first k cells of a row are legal, and what lies ahead of each setting leaves room
 abbrev pub Ready : ℕ → (rates distortions keys : List ℕ) → Type 0
@@ -56,4 +56,4 @@ pub record BestOf (x : ℕ → ℕ) (lo hi key first : ℕ) : Type 0 where
 
 -- weights of 31 bits
 abbrev pub Light : Rule → Type 0
-Light rule = (rule .a < wide) × (rule .b < wide)
+Light rule = (rule .a < weight-bound) × (rule .b < weight-bound)

@@ -1,4 +1,5 @@
 // The least of a row of candidates, and the first that attains it.
+use bytes::cast::cell_to_number;
 use keys::cost::Amount;
 use keys::cost::Dist;
 use keys::cost::Rate;
@@ -6,10 +7,9 @@ use keys::cost::cost;
 use tables::limits::FORBIDDEN;
 ghost use mathlib.Core.Bool.{cond};
 ghost use mathlib.Core.Path.{_≡_};
-ghost use Prim.Native.Nat.{ℕ, _+_, _≤_, _<_, _^_};
+ghost use Prim.Native.Nat.{ℕ, _+_, _≤_, _<_};
 ghost use lib.ListN.{getD, length};
-ghost use Rattle.keys.specs.OneKey.{wide as most-weight};
-ghost use Rattle.least.specs.Row.{«shut-by», «price-of», candidate, Ready, Joins, RunOf, BestOf};
+ghost use Rattle.least.specs.Row.{«shut-by», «price-of», candidate, Ready, Joins, RunOf, BestOf, Light};
 
 // No allowed sequence leads to the end: more than any sequence costs, and twice it still fits.
 pub const NO_WAY: u64 = 4611686018427387904;
@@ -27,12 +27,6 @@ pub struct Run {
     pub first: usize,
 }
 
-fn wide(x: u32) -> u64
-    ensures { λ r. ⌜ (r ≡ x) × (r < 2 ^ 32) ⌝ }
-{
-    x as u64
-}
-
 fn choose(wins: bool, a: u64, b: u64) -> u64
     ensures { λ r. ⌜ r ≡ cond wins a b ⌝ }
 {
@@ -45,30 +39,31 @@ fn choose_first(wins: bool, a: usize, b: usize) -> usize
     if wins { a } else { b }
 }
 
-// A choice that is forbidden, or over the ceiling.
-fn shut(rule: Rule, rate: u32, distortion: u32) -> bool
-    ensures { λ r. ⌜ r ≡ shut-by (rule .ceiling) rate distortion ⌝ }
+// A choice that is forbidden, or whose plain cell is over the ceiling.
+fn shut(rule: Rule, rate: u32, plain: u32) -> bool
+    ensures { λ r. ⌜ r ≡ shut-by (rule .ceiling) rate plain ⌝ }
 {
-    (rate == FORBIDDEN) | (rule.ceiling < distortion)
+    (rate == FORBIDDEN) | (rule.ceiling < plain)
 }
 
-// What a choice costs. Both arms are computed, so that the loop over a row has no branch.
-fn price(rule: Rule, rate: u32, distortion: u32) -> Amount
-    requires { ⌜ (rule .a < most-weight) × (rule .b < most-weight) ⌝ }
-    ensures { λ r. ⌜ r .0 ≡ price-of rule rate distortion ⌝ }
+// What a choice costs: the ceiling is held against the plain cell, and the cost takes the distortion that counts. Both arms are computed, so
+// that the loop over a row has no branch.
+fn price(rule: Rule, rate: u32, plain: u32, counted: u32) -> Amount
+    requires { ⌜ Light rule ⌝ }
+    ensures { λ r. ⌜ r .0 ≡ price-of rule rate plain counted ⌝ }
 {
     let open = cost(
-        Rate(wide(rate)),
-        Dist(wide(distortion)),
-        wide(rule.b),
-        wide(rule.a),
+        Rate(cell_to_number(rate)),
+        Dist(cell_to_number(counted)),
+        cell_to_number(rule.b),
+        cell_to_number(rule.a),
     );
-    Amount(choose(shut(rule, rate, distortion), NO_WAY, open.0))
+    Amount(choose(shut(rule, rate, plain), NO_WAY, open.0))
 }
 
 // What each setting from lo up to hi costs from here to the end.
 fn sums<'a>(
-    room: &mut [u64; 16],
+    row: &mut [u64; 16],
     rates: &'a [u32; 16],
     distortions: &'a [u32; 16],
     rule: Rule,
@@ -77,13 +72,13 @@ fn sums<'a>(
     hi: usize,
 )
     requires { ⌜ (lo ≤ hi) × (hi ≤ 16) ⌝ }
-    requires { ⌜ (rule .a < most-weight) × (rule .b < most-weight) ⌝ }
-    requires { ⌜ Ready hi (now rates) (now distortions) (now keys) × (length (now room) ≡ 16) ⌝ }
-    ensures { λ _. ⌜ length (now (room .exit)) ≡ 16 ⌝ }
-    ensures { λ _. ⌜ ((q : ℕ) → lo ≤ q → q < hi → getD (now (room .exit)) q 0 ≡ candidate rule (now (rates .entry)) (now (distortions .entry)) (now (keys .entry)) q) ⌝ }
+    requires { ⌜ Light rule ⌝ }
+    requires { ⌜ Ready hi (now rates) (now distortions) (now keys) × (length (now row) ≡ 16) ⌝ }
+    ensures { λ _. ⌜ length (now (row .exit)) ≡ 16 ⌝ }
+    ensures { λ _. ⌜ ((q : ℕ) → lo ≤ q → q < hi → getD (now (row .exit)) q 0 ≡ candidate rule (now (rates .entry)) (now (distortions .entry)) (now (keys .entry)) q) ⌝ }
 {
     for q in lo..hi {
-        room[q] = price(rule, rates[q], distortions[q]).0 + keys[q];
+        row[q] = price(rule, rates[q], distortions[q], distortions[q]).0 + keys[q];
     }
 }
 
@@ -140,7 +135,7 @@ fn least(sums: &[u64; 16], lo: usize, hi: usize) -> Run
 
 // The least of the settings from lo up to hi, with what lies ahead of each.
 pub fn pick<'a>(
-    room: &mut [u64; 16],
+    row: &mut [u64; 16],
     rates: &'a [u32; 16],
     distortions: &'a [u32; 16],
     rule: Rule,
@@ -149,16 +144,16 @@ pub fn pick<'a>(
     hi: usize,
 ) -> Run
     requires { ⌜ (lo ≤ hi) × (hi ≤ 16) ⌝ }
-    requires { ⌜ (rule .a < most-weight) × (rule .b < most-weight) ⌝ }
-    requires { ⌜ Ready hi (now rates) (now distortions) (now keys) × (length (now room) ≡ 16) ⌝ }
-    ensures { λ r. ⌜ length (now (room .exit)) ≡ 16 ⌝ }
+    requires { ⌜ Light rule ⌝ }
+    requires { ⌜ Ready hi (now rates) (now distortions) (now keys) × (length (now row) ≡ 16) ⌝ }
+    ensures { λ r. ⌜ length (now (row .exit)) ≡ 16 ⌝ }
     ensures { λ r. ⌜ BestOf (candidate rule (now (rates .entry)) (now (distortions .entry)) (now (keys .entry))) lo hi (r .key .0) (r .first) ⌝ }
 {
     // A run that starts at 0 is the common one, and quicker where the compiler knows its start.
     if lo == 0 {
-        sums(room, rates, distortions, rule, keys, 0, hi);
-        return least(room, 0, hi);
+        sums(row, rates, distortions, rule, keys, 0, hi);
+        return least(row, 0, hi);
     }
-    sums(room, rates, distortions, rule, keys, lo, hi);
-    least(room, lo, hi)
+    sums(row, rates, distortions, rule, keys, lo, hi);
+    least(row, lo, hi)
 }

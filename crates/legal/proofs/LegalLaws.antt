@@ -10,7 +10,7 @@ use Rattle.tables.specs.Legal.{LegalRate, LegalBeside, LegalCell, AllLegal, Low
 module _ (rates distortions : List ℕ) where
   -- what the walks know: the first `end` rates are legal, and the next, if there is one, is not; of these the first k have legal
   -- distortions, and the next, if there is one, has not
-  pub record Walked (end k : ℕ) : Type 0 where
+  pub record TwoWalks (end k : ℕ) : Type 0 where
     pub rates-within : end ≤ length rates
     pub rates-before : (j : ℕ) → j < end → LegalRate (getD rates j 0)
     pub rates-there : end < length rates → LegalRate (getD rates end 0) → ⊥
@@ -18,7 +18,7 @@ module _ (rates distortions : List ℕ) where
     pub before : (j : ℕ) → j < k → LegalBeside (getD rates j 0) (getD distortions j 0)
     pub there : k < end → LegalBeside (getD rates k 0) (getD distortions k 0) → ⊥
 
-  pub walked-lowest : {end k : ℕ} → Walked end k → k < length rates → LowestIllegal rates distortions k
+  pub walked-lowest : {end k : ℕ} → TwoWalks end k → k < length rates → LowestIllegal rates distortions k
   walked-lowest {end} {k} w h = record {
     inside = h;
     illegal = λ l. at l (decLt k end);
@@ -29,7 +29,7 @@ module _ (rates distortions : List ℕ) where
       at l (yes g) = w .there g (l .1)
       at l (no g) = let e : k ≡ end = omega (arith, w .within) in w .rates-there (omega arith) (rw (← e) (l .0))
 
-  pub walked-all : {end k : ℕ} → Walked end k → length rates ≤ k → AllLegal rates distortions
+  pub walked-all : {end k : ℕ} → TwoWalks end k → length rates ≤ k → AllLegal rates distortions
   walked-all w h j g =
       (w .rates-before j (omega (arith, w .within)), w .before j (omega (arith, w .within)))
 

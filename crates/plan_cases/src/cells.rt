@@ -1,5 +1,6 @@
 // Filling a table, the rates first and then the distortions: from codes that follow in the input, a byte for each cell, or by a generator
 // whose four numbers follow, its seed, base, span and forbid.
+use bytes::cast::byte_to_cell;
 use libc::STDIN_FILENO;
 use shown::input::word;
 ghost use Prim.Native.Nat.{_<_};
@@ -24,10 +25,6 @@ const SPECIAL: [u32; 16] = [
     256,
 ];
 
-fn wide(x: u8) -> u32 {
-    x as u32
-}
-
 fn special(code: usize) -> u32
     requires { ⌜ code < 16 ⌝ }
 {
@@ -36,7 +33,7 @@ fn special(code: usize) -> u32
 
 fn cell_of(code: u8) -> u32 {
     if code < 240 {
-        return wide(code);
+        return byte_to_cell(code);
     }
     special((code - 240) as usize)
 }

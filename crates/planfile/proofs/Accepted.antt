@@ -15,11 +15,12 @@ use Rattle.laws.proofs.Tests.{neither}
 use Rattle.rules.specs.declared.Fields.{Fields}
 use Rattle.bytes.specs.Bytes.{number-at}
 use Rattle.blocks.specs.File.{entry-of, header, data-blocks, file-length, file-of, entry-at}
-use Rattle.entries.specs.Entries.{entry-broken, law-broken}
+use Rattle.tables.specs.Law.{allows}
+use Rattle.entries.specs.Entries.{entry-broken}
 use Rattle.checks.specs.Checks.{found, when}
 use Rattle.blocks.specs.Blocks.{length-out, block-broken, bad-block}
-use Rattle.planfile.specs.Reading.{fields-of, marks-of, broken-field, bad-entry, read-refusal, entries}
-use Rattle.planfile.specs.Writing.{no-marks, write-short, write-refusal}
+use Rattle.planfile.specs.Reading.{fields-of, faults-of, broken-field, bad-entry, read-refusal, entries}
+use Rattle.planfile.specs.Writing.{no-faults, write-short, write-refusal}
 use Rattle.bytes.proofs.PartLaws.{part-join}
 use Rattle.bytes.proofs.NumberLaws.{Bytes}
 use Rattle.planfile.proofs.EntryLaws.{length-entries, getD-entries}
@@ -31,14 +32,14 @@ use Rattle.blocks.proofs.SoundLaws.{sealed-part, blocks-part}
 use Rattle.planfile.proofs.HeaderLaws.{header-part}
 
 -- what an accepted file has passed
-pub record Passed (file : List ℕ) (room : ℕ) : Type 0 where
+pub record ReadThrough (file : List ℕ) (room : ℕ) : Type 0 where
   pub blocks : bad-block file ≡ none
-  pub rules : RulesHold (marks-of file) (fields-of file)
+  pub rules : RulesHold (faults-of file) (fields-of file)
   pub enough : fields-of file .scans ≤ room
   pub entries : bad-entry file ≡ none
 
 -- a file that is not refused has passed them
-pub passed : (file : List ℕ) (room : ℕ) → read-refusal file room ≡ none → Passed file room
+pub passed : (file : List ℕ) (room : ℕ) → read-refusal file room ≡ none → ReadThrough file room
 unfolding read-refusal broken-field
 passed file room e =
     let a = none-else (when (length-out (length file)) refusal.FileLength) _ e in
@@ -47,9 +48,9 @@ passed file room e =
     let d = none-else (when (ltb room (fields-of file .scans)) refusal.Buffer) _ (c .1) in
     record {
       blocks = none-found refusal.Block (bad-block file) (b .0);
-      rules = rules-hold (marks-of file) (fields-of file) (c .0);
+      rules = rules-hold (faults-of file) (fields-of file) (c .0);
       enough = ltb-false room (fields-of file .scans) (none-when (ltb room (fields-of file .scans)) refusal.Buffer (d .0));
-      entries = none-found refusal.Entry (bad-entry file) (d .1);
+      entries = none-found refusal.Entry (bad-entry file) (none-else (found refusal.Entry (bad-entry file)) none (d .1) .0);
     }
 
 -- entries that keep their rules are those of a plan of the first N of them: from N on they are zero
@@ -58,12 +59,12 @@ unfolding entry-broken
 shown N Q law e j rules-hold = by (ltb j N) (ltb-true j N) rules-hold
   where
     by : (b : Bool) → (b ≡ true → j < N)
-        → cond b (not (ltb (e j) Q) || (ltb 0 j && law-broken law (e (j - 1)) (e j))) (not (eqb (e j) 0)) ≡ false
+        → cond b (not (ltb (e j) Q) || (ltb 0 j && not (allows law (e (j - 1)) (e j)))) (not (eqb (e j) 0)) ≡ false
         → cond b (getD (entries e 0 N) j 0) 0 ≡ e j
     by true f k = getD-entries e 0 N j (f refl) ∙ ap e (omega arith)
     by false f k = sym (eqb-true (e j) 0 (not-false _ k))
 
-module _ (file : List ℕ) (room : ℕ) (h : Passed file room) where
+module _ (file : List ℕ) (room : ℕ) (h : ReadThrough file room) where
   -- the fields of the file
   abbrev f : Fields
   f = fields-of file
@@ -73,12 +74,12 @@ module _ (file : List ℕ) (room : ℕ) (h : Passed file room) where
   settings = entries (entry-at file) 0 (f .scans)
 
   -- (f .scans) is in its range, and no other length is marked
-  scans-rule : (scans-out (f .scans) ≡ false) × (marks-of file .length ≡ false)
-  scans-rule = neither (scans-out (f .scans)) (marks-of file .length) (h .rules .scans)
+  scans-rule : (scans-out (f .scans) ≡ false) × (faults-of file .length ≡ false)
+  scans-rule = neither (scans-out (f .scans)) (faults-of file .length) (h .rules .scans)
 
   -- the file has the length that goes with N
   long : length file ≡ file-length (f .scans)
-  unfolding marks-of fields-of
+  unfolding faults-of fields-of
   long = right-length (length file) (number-at 8 2 file) (scans-rule .1)
 
   -- every block of the file has its number and check
@@ -110,7 +111,7 @@ module _ (file : List ℕ) (room : ℕ) (h : Passed file room) where
       ∙ take-all (512 + 512 * n) file (omega arith)
 
   -- the header rules hold of what is written, too
-  written-rules : RulesHold no-marks f
+  written-rules : RulesHold no-faults f
   written-rules =
       let k = h .rules in
       record {
@@ -134,7 +135,7 @@ module _ (file : List ℕ) (room : ℕ) (h : Passed file room) where
       → entry-broken (f .scans) (f .settings) (f .law)
       (λ j. getD settings j 0) j ≡ false
   written-entries j g =
-      let most : f .scans ≤ 1024 = limited (marks-of file) f (h .rules) .scans in
+      let most : f .scans ≤ 1024 = limited (faults-of file) f (h .rules) .scans in
       let get : (i : ℕ) → i < f .scans → getD settings i 0 ≡ entry-at file i =
       λ i l. getD-entries (entry-at file) 0 (f .scans) i l ∙ ap (entry-at file) (omega arith) in
       same-broken (f .scans) (f .settings) (f .law) (λ j. getD settings j 0) (entry-at file) j
@@ -153,9 +154,9 @@ module _ (file : List ℕ) (room : ℕ) (h : Passed file room) where
       → write-refusal f settings room₂ ≡ none
   unfolding write-refusal
   written-accepted room₂ g =
-      else-none _ _ (rules-pass no-marks f written-rules)
+      else-none _ _ (rules-pass no-faults f written-rules)
       (else-none _ _ (ap (λ (b : Bool). when b refusal.Buffer) (not-short room₂ g))
-      (ap (found refusal.Entry) (none-first (f .scans) _ 0 (λ j l k. written-entries j (omega arith)))))
+      (else-none _ none (ap (found refusal.Entry) (none-first (f .scans) _ 0 (λ j l k. written-entries j (omega arith)))) refl))
 
 -- Theorem b: every accepted file is the one that its plan is written as.
 pub accepted-file : (file : List ℕ) (room : ℕ) → ((i : ℕ) → getD file i 0 < 256) → read-refusal file room ≡ none

@@ -1,6 +1,6 @@
 -- Theorem a: what is written reads back. Assumes nothing.
 use mathlib.Core.Path.{_≡_, refl, sym, ap, _∙_}
-use mathlib.Core.Bool.{Bool, true, false, cond}
+use mathlib.Core.Bool.{Bool, false, cond}
 use mathlib.Core.Option.{none}
 use mathlib.Core.List.{List, []}
 use Prim.Native.Nat.{ℕ, zero, suc, _+_, _*_, _-_, _/_, _^_, _≤_, _<_}
@@ -14,13 +14,13 @@ use Rattle.rules.specs.declared.Fields.{Fields}
 use Rattle.bytes.specs.Bytes.{le, number-at}
 use Rattle.blocks.specs.File.{header, sealed, entry-of, data-from, data-blocks, file-length, file-of, entry-at, other-length}
 use Rattle.entries.specs.Entries.{entry-broken}
-use Rattle.checks.specs.Checks.{when, or-else}
+use Rattle.checks.specs.Checks.{when}
 use Rattle.blocks.specs.Blocks.{length-out, block-broken, bad-block}
-use Rattle.planfile.specs.Reading.{fields-of, marks-of, broken-field, bad-entry, read-refusal, entries}
-use Rattle.planfile.specs.Writing.{no-marks, write-refusal}
+use Rattle.planfile.specs.Reading.{fields-of, faults-of, broken-field, bad-entry, read-refusal, entries}
+use Rattle.planfile.specs.Writing.{no-faults, write-refusal}
 use Rattle.bytes.proofs.NumberLaws.{value-le}
 use Rattle.planfile.proofs.EntryLaws.{entries-part}
-use Rattle.checks.proofs.CheckLaws.{none-first}
+use Rattle.checks.proofs.CheckLaws.{else-nothing, none-first}
 use Rattle.rules.proofs.FieldLaws.{rules-pass, Limited, limited}
 use Rattle.planfile.proofs.FieldLaws.{Writable, writable, same-broken, entry-small}
 use Rattle.blocks.proofs.LengthLaws.{few-blocks, length-in, same-length, within}
@@ -54,7 +54,7 @@ module _ (f : Fields) (settings : List ℕ) (k : Writable f settings) where
 
   -- the limits of its fields
   abbrev bounds : Limited f
-  bounds = limited no-marks f (k .rules)
+  bounds = limited no-faults f (k .rules)
 
   -- N reads back
   scans-back : number-at 8 2 file ≡ f .scans
@@ -83,8 +83,8 @@ module _ (f : Fields) (settings : List ℕ) (k : Writable f settings) where
   length-kept = rw (length-back f settings, scans-back) (same-length (f .scans))
 
   -- the letters, the zeros and the length are as they should be
-  kept-marks : marks-of file ≡ no-marks
-  unfolding marks-of header le
+  kept-marks : faults-of file ≡ no-faults
+  unfolding faults-of header le
   kept-marks = λ i. record { letters = false; length = length-kept i; run_13 = false; run_48 = false }
 
   -- every block is sound
@@ -109,7 +109,7 @@ module _ (f : Fields) (settings : List ℕ) (k : Writable f settings) where
   -- no field breaks its rule
   kept-rules : f .budget < 2 ^ 64 → broken-field file ≡ none
   unfolding broken-field
-  kept-rules h = rw (kept-marks, kept-fields h) (rules-pass no-marks f (k .rules))
+  kept-rules h = rw (kept-marks, kept-fields h) (rules-pass no-faults f (k .rules))
 
   -- each entry of the data blocks is the one that was written there
   kept-entry : (j : ℕ) → j < 1008 * data-blocks (f .scans) → entry-at file j ≡ entry-of (f .scans) settings j
@@ -175,8 +175,4 @@ module _ (f : Fields) (settings : List ℕ) (room : ℕ) (written : write-refusa
     -- the reader refuses nothing but a buffer that is too short
     pub read-back : (room′ : ℕ) → read-refusal (file-of f settings) room′ ≡ when (ltb room′ (f .scans)) refusal.Buffer
     unfolding read-refusal
-    read-back room′ = rw (length-sound f settings, blocks-sound, fields-sound, fields-back, entries-sound) (last (ltb room′ (f .scans)))
-      where
-        last : (t : Bool) → or-else (when t refusal.Buffer) none ≡ when t refusal.Buffer
-        last true = refl
-        last false = refl
+    read-back room′ = rw (length-sound f settings, blocks-sound, fields-sound, fields-back, entries-sound) (else-nothing (when (ltb room′ (f .scans)) refusal.Buffer))

@@ -1,25 +1,20 @@
 -- The reader accepts exactly the files of plans, each of one plan, and every refusal is the first in document 01's order. Assumes nothing.
-use mathlib.Core.Path.{_≡_, refl, sym, ap, _∙_}
+use mathlib.Core.Path.{_≡_, sym, ap, _∙_}
 use mathlib.Core.Logic.{_↔_}
-use mathlib.Core.Option.{Option, none, some}
-use mathlib.Core.List.{List, [], _∷_}
-use Prim.Native.Nat.{ℕ, zero, suc, _^_, _≤_, _<_}
-use native.Mathlib.Decide.{decLt}
+use mathlib.Core.Option.{none, some}
+use mathlib.Core.List.{List}
+use Prim.Native.Nat.{ℕ, _^_, _≤_, _<_}
 use native.Mathlib.Omega.{arith}
-use lib.Dec.{ltb}
-use lib.ListN.{length, getD, take}
+use lib.ListN.{getD, take}
 use borrow.Author.Tests.{le-ltb}
 use Rattle.tables.specs.declared.refusal.Refusal.{Refusal}
 use Rattle.tables.specs.declared.refusal.Refusal.the-variants as refusal
-use Rattle.checks.specs.Checks.{first-refusal, first-from, when, or-else, found}
-use Rattle.laws.proofs.Tests.{never}
+use Rattle.checks.proofs.CheckLaws.{FirstOf, first-is}
+use Rattle.checks.specs.Checks.{when}
 use Rattle.rules.specs.declared.Fields.{Fields}
 use Rattle.blocks.specs.File.{file-length, file-of, entry-at}
-use Rattle.rules.specs.Rules.{header-rules}
-use Rattle.entries.specs.Entries.{entry-broken}
-use Rattle.blocks.specs.Blocks.{length-out, bad-block}
-use Rattle.planfile.specs.Reading.{fields-of, broken-field, bad-entry, read-refusal, entries}
-use Rattle.planfile.specs.Writing.{no-marks, write-short, write-refusal}
+use Rattle.planfile.specs.Reading.{reader-checks, fields-of, read-refusal, entries}
+use Rattle.planfile.specs.Writing.{writer-checks, write-refusal}
 use Rattle.bytes.proofs.NumberLaws.{number-small}
 use Rattle.planfile.proofs.Back.{fields-back, settings-back, read-back}
 use Rattle.planfile.proofs.Accepted.{passed, accepted-file, accepted-plan}
@@ -84,91 +79,13 @@ plan-unique file room room′ p q = (same-fields, same-settings)
         ∙ ap (λ (f : Fields). entries (entry-at file) 0 (f .scans)) same-fields
         ∙ plan-settings file room′ q
 
--- r is the first refusal among the outcomes of some stages: the stage of this index ends in r, and every stage before it passes
-pub record FirstOf (stages : List (Option Refusal)) (r : Refusal) : Type 0 where
-  pub index : ℕ
-  pub here : getD stages index none ≡ some r
-  pub before : (i : ℕ) → i < index → getD stages i none ≡ none
-
--- it is the only one, and so is its index
-pub first-once : (stages : List (Option Refusal)) (r r′ : Refusal) (p : FirstOf stages r) (q : FirstOf stages r′)
-    → (p .index ≡ q .index) × (r ≡ r′)
-first-once stages r r′ p q =
-    let e : p .index ≡ q .index = of (decLt (p .index) (q .index)) (decLt (q .index) (p .index)) in
-    let g : some r ≡ some r′ = sym (p .here) ∙ ap (λ (i : ℕ). getD stages i none) e ∙ q .here in
-    (e, cc)
-  where
-    -- a stage does not both pass and end in a refusal
-    not-both : {o : Option Refusal} {s : Refusal} → o ≡ some s → o ≡ none → ⊥
-    not-both e g = never cc
-
-    of : Dec (p .index < q .index) → Dec (q .index < p .index) → p .index ≡ q .index
-    of (yes l) d = absurd (not-both (p .here) (q .before (p .index) l))
-    of (no l) (yes m) = absurd (not-both (q .here) (p .before (q .index) m))
-    of (no l) (no m) = omega arith
-
--- the last stage
-last-stage : (o : Option Refusal) (r : Refusal) → (o ≡ some r) ↔ FirstOf (o ∷ []) r
-last-stage o r = (to, λ f. from (f .index) (f .here))
-  where
-    to : o ≡ some r → FirstOf (o ∷ []) r
-    to e = record { index = 0; here = e; before = λ i h. absurd (omega arith) }
-
-    from : (k : ℕ) → getD (o ∷ []) k none ≡ some r → o ≡ some r
-    from zero e = e
-    from (suc k) e = never cc
-
--- a stage, and those after it
-next-stage : (o rest : Option Refusal) (l : List (Option Refusal)) (r : Refusal) → (rest ≡ some r) ↔ FirstOf l r
-    → (or-else o rest ≡ some r) ↔ FirstOf (o ∷ l) r
-next-stage o rest l r h = (to o, λ f. from o (f .index) (f .here) (f .before))
-  where
-    -- behind a stage that passes, the first is one later
-    behind : FirstOf l r → FirstOf (none ∷ l) r
-    behind f = record { index = suc (f .index); here = f .here; before = each }
-      where
-        each : (i : ℕ) → i < suc (f .index) → getD (none ∷ l) i none ≡ none
-        each zero g = refl
-        each (suc i) g = f .before i (omega arith)
-
-    to : (o : Option Refusal) → or-else o rest ≡ some r → FirstOf (o ∷ l) r
-    to none e = behind (h .0 e)
-    to (some s) e = record { index = 0; here = e; before = λ i g. absurd (omega arith) }
-
-    from : (o : Option Refusal) (k : ℕ) → getD (o ∷ l) k none ≡ some r → ((i : ℕ) → i < k → getD (o ∷ l) i none ≡ none)
-        → or-else o rest ≡ some r
-    from none zero e b = never cc
-    from none (suc k) e b = h .1 (record { index = k; here = e; before = λ i g. b (suc i) (omega arith) })
-    from (some s) zero e b = e
-    from (some s) (suc k) e b =
-        let c : some s ≡ none = b 0 (omega arith) in never cc
-
--- "The reader checks 11, 12, 13, 6, 14": how each of these stages ends
-abbrev pub reader-stages : List ℕ → ℕ → List (Option Refusal)
-reader-stages file room =
-    when (length-out (length file)) refusal.FileLength
-    ∷ found refusal.Block (bad-block file)
-    ∷ broken-field file
-    ∷ when (ltb room (fields-of file .scans)) refusal.Buffer
-    ∷ found refusal.Entry (bad-entry file)
-    ∷ []
-
--- The reader gives a refusal if and only if it is the first of its stages'.
-pub reader-order : (file : List ℕ) (room : ℕ) (r : Refusal) → (read-refusal file room ≡ some r) ↔ FirstOf (reader-stages file room) r
+-- "The reader checks 11, 12, 13, 6, 14": it gives a refusal if and only if it is the first of its checks'.
+pub reader-order : (file : List ℕ) (room : ℕ) (r : Refusal) → (read-refusal file room ≡ some r) ↔ FirstOf (reader-checks file room) r
 unfolding read-refusal
-reader-order file room r =
-    next-stage _ _ _ r (next-stage _ _ _ r (next-stage _ _ _ r (next-stage _ _ _ r (last-stage (found refusal.Entry (bad-entry file)) r))))
+reader-order file room r = first-is (reader-checks file room) r
 
--- "the writer 13, 6, 14"
-abbrev pub writer-stages : Fields → List ℕ → ℕ → List (Option Refusal)
-writer-stages f settings room =
-    first-refusal (header-rules no-marks f)
-    ∷ when (write-short (f .scans) (length settings) room) refusal.Buffer
-    ∷ found refusal.Entry (first-from (entry-broken (f .scans) (f .settings) (f .law) (λ j. getD settings j 0)) 0 (f .scans))
-    ∷ []
-
--- The writer gives a refusal if and only if it is the first of its stages'.
+-- "the writer 13, 6, 14": and so does the writer.
 pub writer-order : (f : Fields) (settings : List ℕ) (room : ℕ) (r : Refusal)
-    → (write-refusal f settings room ≡ some r) ↔ FirstOf (writer-stages f settings room) r
+    → (write-refusal f settings room ≡ some r) ↔ FirstOf (writer-checks f settings room) r
 unfolding write-refusal
-writer-order f settings room r = next-stage _ _ _ r (next-stage _ _ _ r (last-stage _ r))
+writer-order f settings room r = first-is (writer-checks f settings room) r

@@ -8,20 +8,20 @@ use native.Mathlib.Omega.{arith}
 use lib.ListN.{length, getD}
 use borrow.Author.Tests.{ltb-true, ltb-false, lt-ltb, not-false}
 use Rattle.tables.specs.declared.refusal.Refusal.the-variants as refusal
-use Rattle.checks.specs.Checks.{first-refusal, first-from}
+use Rattle.checks.specs.Checks.{found, first-refusal, first-from}
 use Rattle.laws.proofs.Tests.{neither}
 use Rattle.rules.specs.declared.Fields.{Fields}
 use Rattle.blocks.specs.File.{entry-of}
 use Rattle.rules.specs.Rules.{header-rules}
 use Rattle.entries.specs.Entries.{entry-broken}
-use Rattle.planfile.specs.Writing.{no-marks, write-short, write-refusal}
+use Rattle.planfile.specs.Writing.{no-faults, write-short, write-refusal}
 use Rattle.planfile.proofs.EntryLaws.{setting-small}
 use Rattle.checks.proofs.CheckLaws.{none-else, none-when, none-found, none-so}
 use Rattle.rules.proofs.FieldLaws.{rules-hold, limited, RulesHold}
 
 -- the header rules are kept, there are N settings, and none of them breaks its rule
 pub record Writable (f : Fields) (settings : List ℕ) : Type 0 where
-  pub rules : RulesHold no-marks f
+  pub rules : RulesHold no-faults f
   pub enough : f .scans ≤ length settings
   pub entries : (j : ℕ) → j < f .scans → entry-broken (f .scans) (f .settings) (f .law) (λ j. getD settings j 0) j ≡ false
 
@@ -29,13 +29,13 @@ pub record Writable (f : Fields) (settings : List ℕ) : Type 0 where
 pub writable : (f : Fields) (settings : List ℕ) (room : ℕ) → write-refusal f settings room ≡ none → Writable f settings
 unfolding write-refusal
 writable f settings room e =
-    let a = none-else (first-refusal (header-rules no-marks f)) _ e in
+    let a = none-else (first-refusal (header-rules no-faults f)) _ e in
     let b = none-else _ _ (a .1) in
     let short = none-when (write-short (f .scans) (length settings) room) refusal.Buffer (b .0) in
     let bad : ℕ → Bool = entry-broken (f .scans) (f .settings) (f .law) (λ j. getD settings j 0) in
-    let found-none = none-found refusal.Entry (first-from bad 0 (f .scans)) (b .1) in
+    let found-none = none-found refusal.Entry (first-from bad 0 (f .scans)) (none-else (found refusal.Entry (first-from bad 0 (f .scans))) none (b .1) .0) in
     record {
-      rules = rules-hold no-marks f (a .0);
+      rules = rules-hold no-faults f (a .0);
       enough = ltb-false (length settings) (f .scans) (neither _ _ short .0);
       entries = λ j h. none-so (f .scans) bad 0 found-none j (omega arith) (omega arith);
     }
@@ -59,5 +59,5 @@ entry-small f settings k =
     omega (
       arith,
       entry-below (f .scans) (f .settings) (f .law) (λ i. getD settings i 0) j h (k .entries j h),
-      limited no-marks f (k .rules) .settings,
+      limited no-faults f (k .rules) .settings,
     ))

@@ -1,4 +1,4 @@
--- Block 0 as it is read: its marks and its fields are its bytes. Assumes nothing.
+-- Block 0 as it is read: its faults and its fields are its bytes. Assumes nothing.
 use mathlib.Core.Path.{_≡_, refl, sym, ap, _∙_}
 use mathlib.Core.Bool.{Bool, false, not}
 use mathlib.Core.List.{List, [], _∷_}
@@ -7,11 +7,12 @@ use native.Mathlib.Omega.{arith}
 use lib.Dec.{eqb}
 use lib.ListN.{length, replicate, length-replicate}
 use borrow.Author.Tests.{eqb-true, not-false}
+use Rattle.rules.specs.declared.Faults.{Faults}
 use Rattle.laws.proofs.Tests.{neither}
 use Rattle.bytes.specs.Bytes.{part, number-at}
 use Rattle.blocks.specs.File.{letters, header, other-length}
 use Rattle.blocks.specs.Blocks.{block-broken}
-use Rattle.planfile.specs.Reading.{fields-of, differ, marks-of}
+use Rattle.planfile.specs.Reading.{fields-of, differ, faults-of}
 use Rattle.bytes.proofs.PartLaws.{part-length, part-join}
 use Rattle.bytes.proofs.NumberLaws.{Bytes, number-back}
 use Rattle.rules.proofs.FieldLaws.{RulesHold}
@@ -20,22 +21,21 @@ use mathlib.Core.Bool.{Bool}
 use mathlib.Core.List.{List}
 use Prim.Native.Nat.{ℕ}
 use lib.ListN.{length, replicate}
-use Rattle.rules.specs.declared.Marks.{Marks}
 use Rattle.blocks.proofs.SoundLaws.{number-part}
 
-abbrev marks : Bool → Bool → Bool → Bool → Marks
-marks a b c d = record { letters = a; length = b; run_13 = c; run_48 = d }
+abbrev faults : Bool → Bool → Bool → Bool → Faults
+faults a b c d = record { letters = a; length = b; run_13 = c; run_48 = d }
 
-same-marks : {a a′ b b′ c c′ d d′ : Bool} → a ≡ a′ → b ≡ b′ → c ≡ c′ → d ≡ d′ → marks a b c d ≡ marks a′ b′ c′ d′
-same-marks {a} {a′} {b} {b′} {c} {c′} {d} {d′} p q r s =
-    ap (λ x. marks x b c d) p ∙ ap (λ x. marks a′ x c d) q ∙ ap (λ x. marks a′ b′ x d) r ∙ ap (marks a′ b′ c′) s
+same-faults : {a a′ b b′ c c′ d d′ : Bool} → a ≡ a′ → b ≡ b′ → c ≡ c′ → d ≡ d′ → faults a b c d ≡ faults a′ b′ c′ d′
+same-faults {a} {a′} {b} {b′} {c} {c′} {d} {d′} p q r s =
+    ap (λ x. faults x b c d) p ∙ ap (λ x. faults a′ x c d) q ∙ ap (λ x. faults a′ b′ x d) r ∙ ap (faults a′ b′ c′) s
 
--- four answers that are the marks
-pub told-marks : (file : List ℕ) (N : ℕ) {a b c d : Bool} → N ≡ number-at 8 2 file → a ≡ differ letters (part 4 4 file)
+-- four answers that are the faults
+pub told-faults : (file : List ℕ) (N : ℕ) {a b c d : Bool} → N ≡ number-at 8 2 file → a ≡ differ letters (part 4 4 file)
     → b ≡ other-length (length file) N → c ≡ differ (replicate 3 0) (part 13 3 file) → d ≡ differ (replicate 460 0) (part 48 460 file)
-    → marks a b c d ≡ marks-of file
-unfolding marks-of
-told-marks file N n p q r s = same-marks p (q ∙ ap (other-length (length file)) n) r s
+    → faults a b c d ≡ faults-of file
+unfolding faults-of
+told-faults file N n p q r s = same-faults p (q ∙ ap (other-length (length file)) n) r s
 
 -- as many bytes, none of which differs
 no-difference : (s t : List ℕ) → length t ≡ length s → differ s t ≡ false → s ≡ t
@@ -53,9 +53,9 @@ module _ (file : List ℕ) (bytes : Bytes file) where
   run-part s at k e h d = no-difference s (part at k file) (part-length at k file h ∙ sym e) d
 
   -- the header of the fields of block 0 is its first 508 bytes
-  pub header-part : 512 ≤ length file → block-broken file 0 ≡ false → RulesHold (marks-of file) (fields-of file)
+  pub header-part : 512 ≤ length file → block-broken file 0 ≡ false → RulesHold (faults-of file) (fields-of file)
       → header (fields-of file) ≡ part 0 508 file
-  unfolding header fields-of marks-of
+  unfolding header fields-of faults-of
   header-part h broken kept =
       part-join file 0 48 460 (
       part-join file 0 44 4 (

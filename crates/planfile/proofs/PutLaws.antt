@@ -8,7 +8,7 @@ use lib.ListN.{length, replicate, length-append, length-replicate}
 use lib.Seq.{sets, length-sets}
 use Rattle.rules.specs.declared.Fields.{Fields}
 use Rattle.bytes.specs.Bytes.{le, part}
-use Rattle.blocks.specs.Sum.{sum}
+use Rattle.blocks.specs.BlockCheck.{check-of}
 use Rattle.blocks.specs.File.{letters, header, sealed, data-block, pairs}
 use Rattle.laws.proofs.Stores.{sets-append}
 use Rattle.bytes.proofs.PartLaws.{part-sets}
@@ -30,15 +30,15 @@ next {d} {l} {file} {after} {at} {n} {k} to m s e h p = record {
 
 -- the sum of 508 bytes that are stored is stored behind them
 pub with-sum : (d l file after : List ℕ) (at : ℕ) → at + 508 ≤ length d → Stored d at l 508 file
-    → after ≡ sets file (at + 508) (le 4 (sum (part at 508 file))) → after ≡ sets d at (sealed l)
+    → after ≡ sets file (at + 508) (le 4 (check-of (part at 508 file))) → after ≡ sets d at (sealed l)
 with-sum d l file after at h s e =
     let p : part at 508 file ≡ l =
     ap (part at 508) (s .so) ∙ ap (λ (k : ℕ). part at k (sets d at l)) (sym (s .long)) ∙ part-sets d l at (omega (arith, s .long)) in
-    next (at + 508) (le 4 (sum l)) s (e ∙ ap (λ (b : List ℕ). sets file (at + 508) (le 4 (sum b))) p) (length-le 4 (sum l)) refl .so
+    next (at + 508) (le 4 (check-of l)) s (e ∙ ap (λ (b : List ℕ). sets file (at + 508) (le 4 (check-of b))) p) (length-le 4 (check-of l)) refl .so
 
 -- a store changes no length
-pub kept : (a : List ℕ) {b : List ℕ} (at : ℕ) (m : List ℕ) → b ≡ sets a at m → length b ≡ length a
-kept a at m e = ap length e ∙ length-sets a at m
+pub length-kept : (a : List ℕ) {b : List ℕ} (at : ℕ) (m : List ℕ) → b ≡ sets a at m → length b ≡ length a
+length-kept a at m e = ap length e ∙ length-sets a at m
 
 -- the fields of block 0, one after the other
 pub header-stored : (f : Fields) (d a b c e g h i j k l m n o p q : List ℕ) → a ≡ sets d 0 (le 4 0) → b ≡ sets a 4 letters
@@ -67,7 +67,7 @@ header-stored f d a b c e g h i j k l m n o p q e0 e1 e2 e3 e4 e5 e6 e7 e8 e9 e1
 -- the number of data block b, its entries and its sum
 pub data-stored : (e : ℕ → ℕ) (b : ℕ) (d numbered filled after : List ℕ) → 512 * suc b + 512 ≤ length d
     → numbered ≡ sets d (512 * (b + 1)) (le 4 (b + 1)) → filled ≡ sets numbered (512 * suc b + 4) (pairs e (1008 * b) 504)
-    → after ≡ sets filled (512 * (b + 1) + 508) (le 4 (sum (part (512 * (b + 1)) 508 filled)))
+    → after ≡ sets filled (512 * (b + 1) + 508) (le 4 (check-of (part (512 * (b + 1)) 508 filled)))
     → after ≡ sets d (512 * suc b) (sealed (data-block e b))
 unfolding data-block
 data-stored e b d numbered filled after h p q r =
@@ -75,4 +75,4 @@ data-stored e b d numbered filled after h p q r =
     record { so = p ∙ ap (λ (k : ℕ). sets d (512 * k) (le 4 k)) (add-one b); long = length-le 4 (suc b) } in
     with-sum d (le 4 (suc b) ++ pairs e (1008 * b) 504) filled after (512 * suc b) (omega arith)
     (next (512 * suc b + 4) (pairs e (1008 * b) 504) first q (length-pairs e (1008 * b) 504) refl)
-    (r ∙ ap (λ (k : ℕ). sets filled (512 * k + 508) (le 4 (sum (part (512 * k) 508 filled)))) (add-one b))
+    (r ∙ ap (λ (k : ℕ). sets filled (512 * k + 508) (le 4 (check-of (part (512 * k) 508 filled)))) (add-one b))

@@ -6,7 +6,7 @@ use mathlib.Core.List.{List, _++_}
 use Prim.Native.Nat.{ℕ, _+_, _*_, _-_, _/_, _≤_, _<_}
 use native.Mathlib.Nat.{zero-add}
 use native.Mathlib.Omega.{arith}
-use lib.Dec.{ltb, eqb}
+use lib.Dec.{eqb}
 use lib.ListN.{length, drop}
 use lib.Seq.{sets, sets-eq}
 use borrow.Author.Tests.{eqb-true}
@@ -20,31 +20,19 @@ use Rattle.checks.specs.declared.stage.Stage.{Stage}
 use Rattle.checks.specs.declared.stage.Stage.the-variants.{Passed}
 use Rattle.bytes.specs.Bytes.{number-at}
 use Rattle.blocks.specs.File.{entry-at, file-length, other-length}
-use Rattle.checks.specs.Checks.{or-else, when, first-from, found}
+use Rattle.checks.specs.Checks.{when, first-from, found, first-refusal}
 use Rattle.entries.specs.Entries.{entry-broken}
 use Rattle.checks.specs.Stages.{ended}
-use Rattle.blocks.specs.Blocks.{length-out, bad-block}
-use Rattle.planfile.specs.Reading.{broken-field, bad-entry, fields-of, marks-of, values-of, entries, read-refusal, read-of, settings-after}
+use Rattle.blocks.specs.Blocks.{length-out}
+use Rattle.planfile.specs.Reading.{reader-checks, broken-field, bad-entry, fields-of, faults-of, field-values, entries, read-refusal, read-of, settings-after}
+use Rattle.checks.proofs.StageLaws.{passed-none}
 use Rattle.checks.proofs.CheckLaws.{none-when}
 use Rattle.rules.proofs.FieldLaws.{rules-hold, limited}
 use Rattle.blocks.proofs.LengthLaws.{right-length, few-blocks, within}
 use Rattle.planfile.proofs.EntryLaws.{length-entries}
-use Rattle.checks.proofs.StageLaws.{last-pass}
 
--- what is left of the reader's stages
-abbrev pub from-entries : List ℕ → Option Refusal
-from-entries file = found refusal.Entry (bad-entry file)
-
-abbrev pub from-room : List ℕ → ℕ → Option Refusal
-from-room file room = or-else (when (ltb room (fields-of file .scans)) refusal.Buffer) (from-entries file)
-
-abbrev pub from-header : List ℕ → ℕ → Option Refusal
-from-header file room = or-else (broken-field file) (from-room file room)
-
-abbrev pub from-blocks : List ℕ → ℕ → Option Refusal
-from-blocks file room = or-else (found refusal.Block (bad-block file)) (from-header file room)
-
-pub all-stages : (file : List ℕ) (room : ℕ) → read-refusal file room ≡ or-else (when (length-out (length file)) refusal.FileLength) (from-blocks file room)
+-- the reader's stages, as its checks
+pub all-stages : (file : List ℕ) (room : ℕ) → read-refusal file room ≡ first-refusal (reader-checks file room)
 unfolding read-refusal
 all-stages file room = refl
 
@@ -57,14 +45,14 @@ refused-read file settings r r′ q e = (ap refused q ∙ sym (rw e refl), sym (
 -- the answer and the settings buffer of a file that is read
 pub accepted-read : (file settings after : List ℕ) (f : Fields) → f ≡ fields-of file → fields-of file .scans ≤ length settings
     → after ≡ sets settings 0 (entries (entry-at file) 0 (fields-of file .scans)) → read-refusal file (length settings) ≡ none
-    → (answered (values-of f) ≡ read-of file (length settings)) × (after ≡ settings-after (read-refusal file (length settings)) file settings)
+    → (answered (field-values f) ≡ read-of file (length settings)) × (after ≡ settings-after (read-refusal file (length settings)) file settings)
 unfolding read-of
 accepted-read file settings after f q h s e =
     let N = fields-of file .scans in
     let l = entries (entry-at file) 0 N in
     let n : length l ≡ N = length-entries (entry-at file) 0 N in
     let k : 0 + length l ≤ length settings = omega (arith, n, h) in (
-      ap (λ g. answered (values-of g)) q ∙ sym (rw e refl),
+      ap (λ g. answered (field-values g)) q ∙ sym (rw e refl),
       s ∙ sets-eq l settings 0 k ∙ ap (λ m. l ++ drop m settings) (zero-add (length l) ∙ n) ∙ sym (rw e refl),
     )
 
@@ -80,16 +68,16 @@ two-lengths n e = at (eqb n 1024) (eqb n 1536) refl refl e
 -- where the length stage passed
 pub sized : {z : Stage} (file : List ℕ) → ended z ≡ when (length-out (length file)) refusal.FileLength → z ≡ Passed
     → (1024 ≤ length file) × (length file ≤ 1536)
-sized file e q = two-lengths (length file) (none-when (length-out (length file)) refusal.FileLength (last-pass e q))
+sized file e q = two-lengths (length file) (none-when (length-out (length file)) refusal.FileLength (passed-none e q))
 
 -- where the header passed, every entry of the plan stands in the file
 pub entries-inside : (file : List ℕ) → broken-field file ≡ none
     → (fields-of file .scans ≤ 2016) × ((j : ℕ) → j < fields-of file .scans → 512 * (j / 1008 + 2) ≤ length file)
-unfolding broken-field marks-of fields-of number-at
+unfolding broken-field faults-of fields-of number-at
 entries-inside file e =
-    let k = rules-hold (marks-of file) (fields-of file) e in
+    let k = rules-hold (faults-of file) (fields-of file) e in
     let N = fields-of file .scans in
-    let m : N ≤ 1024 = limited (marks-of file) (fields-of file) k .scans in
+    let m : N ≤ 1024 = limited (faults-of file) (fields-of file) k .scans in
     let l : length file ≡ file-length N = right-length (length file) N (neither (scans-out N) (other-length (length file) N) (k .scans) .1) in
     let w = within N m in
     (omega (arith, m), λ j h. omega (arith, l, w, few-blocks N, h))
@@ -97,7 +85,7 @@ entries-inside file e =
 -- entries that were checked by fields which are the file's
 pub told-entries : (file : List ℕ) {f : Fields} {o : Option Refusal} → f ≡ fields-of file
     → o ≡ found refusal.Entry (first-from (entry-broken (f .scans) (f .settings) (f .law) (entry-at file)) 0 (1008 * (length file / 512 - 1)))
-    → o ≡ from-entries file
+    → o ≡ found refusal.Entry (bad-entry file)
 unfolding bad-entry
 told-entries file {f} {o} e h =
     h

@@ -1,7 +1,7 @@
 -- The writer's stages, and its answer. Assumes nothing.
 use mathlib.Core.Path.{_≡_, refl, sym, ap, _∙_}
 use mathlib.Core.Bool.{true, false, cond}
-use mathlib.Core.Option.{Option, none, some}
+use mathlib.Core.Option.{none, some}
 use mathlib.Core.List.{List, [], _∷_, _++_, append-nil, append-assoc}
 use Prim.Native.Nat.{ℕ, zero, suc, _+_, _≤_, _<_}
 use native.Mathlib.Nat.{zero-add}
@@ -13,30 +13,21 @@ use borrow.Author.Tests.{ltb-false, lt-ltb}
 use Rattle.tables.specs.declared.refusal.Refusal.{Refusal}
 use Rattle.tables.specs.declared.refusal.Refusal.the-variants as refusal
 use Rattle.tables.specs.Refusals.{refused, answered}
-use Rattle.checks.specs.Checks.{first-refusal, or-else, when, first-from, found}
+use Rattle.checks.specs.Checks.{first-refusal, when}
 use Rattle.checks.specs.Planning.{scans-out}
 use Rattle.checks.proofs.RangeLaws.{in-range}
 use Rattle.laws.proofs.Tests.{neither}
 use Rattle.rules.specs.declared.Fields.{Fields}
 use Rattle.blocks.specs.File.{sealed, data-block, data-from, file-of, file-length}
-use Rattle.entries.specs.Entries.{entry-broken}
 use Rattle.rules.specs.Rules.{header-rules}
-use Rattle.planfile.specs.Writing.{no-marks, write-short, write-refusal, write-of, file-after}
+use Rattle.planfile.specs.Writing.{writer-checks, no-faults, write-short, write-refusal, write-of, file-after}
 use Rattle.checks.proofs.CheckLaws.{none-when}
 use Rattle.rules.proofs.FieldLaws.{rules-hold}
 use Rattle.planfile.proofs.FieldLaws.{writable, entry-small}
 use Rattle.planfile.proofs.Back.{length-back}
 
--- what is left of the writer's stages
-abbrev pub from-settings : Fields → List ℕ → Option Refusal
-from-settings f settings =
-    found refusal.Entry (first-from (entry-broken (f .scans) (f .settings) (f .law) (λ j. getD settings j 0)) 0 (f .scans))
-
-abbrev pub from-short : Fields → List ℕ → ℕ → Option Refusal
-from-short f settings room = or-else (when (write-short (f .scans) (length settings) room) refusal.Buffer) (from-settings f settings)
-
-pub write-stages : (f : Fields) (settings : List ℕ) (room : ℕ)
-    → write-refusal f settings room ≡ or-else (first-refusal (header-rules no-marks f)) (from-short f settings room)
+-- the writer's stages, as its checks
+pub write-stages : (f : Fields) (settings : List ℕ) (room : ℕ) → write-refusal f settings room ≡ first-refusal (writer-checks f settings room)
 unfolding write-refusal
 write-stages f settings room = refl
 
@@ -60,9 +51,9 @@ accepted-write f settings file after n q h s e =
           ∙ sym (rw e refl),
     )
 
--- where the rules are rules-hold, N is in its range
-pub scans-inside : (f : Fields) → first-refusal (header-rules no-marks f) ≡ none → (1 ≤ f .scans) × (f .scans ≤ 1024)
-scans-inside f e = in-range (neither (scans-out (f .scans)) false (rules-hold no-marks f e .scans) .0)
+-- where the rules are kept, N is in its range
+pub scans-inside : (f : Fields) → first-refusal (header-rules no-faults f) ≡ none → (1 ≤ f .scans) × (f .scans ≤ 1024)
+scans-inside f e = in-range (neither (scans-out (f .scans)) false (rules-hold no-faults f e .scans) .0)
 
 -- where the room is enough
 pub room-inside : (N settings room : ℕ) → when (write-short N settings room) refusal.Buffer ≡ none → (N ≤ settings) × (file-length N ≤ room)

@@ -5,16 +5,17 @@ use mathlib.Core.List.{List, [], _∷_, _++_}
 use Prim.Native.Nat.{ℕ, zero, suc, _*_, _-_, _/_}
 use lib.Dec.{eqb, ltb}
 use lib.ListN.{length, getD, drop, replicate}
+use Rattle.rules.specs.declared.Faults.{Faults}
+use Rattle.blocks.specs.Sizes.{first-run, last-run, block-size, block-entries}
 use Rattle.tables.specs.declared.refusal.Refusal.{Refusal}
 use Rattle.tables.specs.declared.refusal.Refusal.the-variants as refusal
 use Rattle.tables.specs.Refusals.{Reply, refused, answered}
-use Rattle.checks.specs.Checks.{first-refusal, or-answer, first-from, when, or-else, found}
+use Rattle.checks.specs.Checks.{first-refusal, or-answer, first-from, when, found}
 use Rattle.rules.specs.declared.Fields.{Fields}
 use Rattle.planfile.specs.declared.read.ReadAnswer.{ReadAnswer}
 use Rattle.planfile.specs.declared.read.ReadAnswer.the-variants.{Read, Refused}
 use Rattle.bytes.specs.Bytes.{part, number-at}
-use Rattle.blocks.specs.File.{letters, block-size, block-entries, entry-at, other-length}
-use Rattle.rules.specs.declared.Marks.{Marks}
+use Rattle.blocks.specs.File.{letters, entry-at, other-length}
 use Rattle.rules.specs.Rules.{header-rules}
 use Rattle.entries.specs.Entries.{entry-broken}
 use Rattle.blocks.specs.Blocks.{length-out, bad-block}
@@ -40,16 +41,16 @@ abbrev pub differ : List ℕ → List ℕ → Bool
 differ [] t = false
 differ (a ∷ s) t = not (eqb a (getD t 0 0)) || differ s (drop 1 t)
 
-unfoldable pub marks-of : List ℕ → Marks
-marks-of file = record {
+unfoldable pub faults-of : List ℕ → Faults
+faults-of file = record {
   letters = differ letters (part 4 4 file);
   length = other-length (length file) (number-at 8 2 file);
-  run_13 = differ (replicate 3 0) (part 13 3 file);
-  run_48 = differ (replicate 460 0) (part 48 460 file);
+  run_13 = differ (replicate first-run 0) (part 13 first-run file);
+  run_48 = differ (replicate last-run 0) (part 48 last-run file);
 }
 
 unfoldable pub broken-field : List ℕ → Option Refusal
-broken-field file = first-refusal (header-rules (marks-of file) (fields-of file))
+broken-field file = first-refusal (header-rules (faults-of file) (fields-of file))
 
 -- 14: "an entry or filler breaks its rule", with "its entry number": all entries of the data blocks
 unfoldable pub bad-entry : List ℕ → Option ℕ
@@ -58,21 +59,25 @@ bad-entry file =
     first-from (entry-broken (f .scans) (f .settings) (f .law) (entry-at file)) 0 (block-entries * (length file / block-size - 1))
 
 -- "The reader checks 11, 12, 13, 6, 14"; room is the length of the lent settings buffer
+abbrev pub reader-checks : List ℕ → ℕ → List (Option Refusal)
+reader-checks file room =
+    when (length-out (length file)) refusal.FileLength
+    ∷ found refusal.Block (bad-block file)
+    ∷ broken-field file
+    ∷ when (ltb room (fields-of file .scans)) refusal.Buffer
+    ∷ found refusal.Entry (bad-entry file)
+    ∷ []
+
 unfoldable pub read-refusal : List ℕ → ℕ → Option Refusal
-read-refusal file room =
-    or-else (when (length-out (length file)) refusal.FileLength)
-    (or-else (found refusal.Block (bad-block file))
-    (or-else (broken-field file)
-    (or-else (when (ltb room (fields-of file .scans)) refusal.Buffer)
-    (found refusal.Entry (bad-entry file)))))
+read-refusal file room = first-refusal (reader-checks file room)
 
 -- scans, settings, law, kind, budget, n, d, rate, distortion, peak, floor
-abbrev pub values-of : Fields → List ℕ
-values-of f =
+abbrev pub field-values : Fields → List ℕ
+field-values f =
     f .scans ∷ f .settings ∷ f .law ∷ f .kind ∷ f .budget ∷ f .n ∷ f .d ∷ f .rate .0 ∷ f .distortion .0 ∷ f .peak ∷ f .floor .0 ∷ []
 
 unfoldable pub read-of : List ℕ → ℕ → Reply
-read-of file room = or-answer (read-refusal file room) (values-of (fields-of file))
+read-of file room = or-answer (read-refusal file room) (field-values (fields-of file))
 
 -- the first n entries of a file
 abbrev pub entries : (ℕ → ℕ) → ℕ → ℕ → List ℕ
@@ -86,5 +91,5 @@ settings-after (some r) file settings = settings
 
 -- the number and values of the reader's answer
 abbrev pub read-reply : ReadAnswer → Reply
-read-reply (Read f) = answered (values-of f)
+read-reply (Read f) = answered (field-values f)
 read-reply (Refused r) = refused r

@@ -5,32 +5,36 @@ use mathlib.Core.List.{List, [], _∷_, _++_}
 use Prim.Native.Nat.{ℕ}
 use lib.Dec.{ltb}
 use lib.ListN.{length, getD, drop}
+use Rattle.rules.specs.declared.Faults.{Faults}
 use Rattle.tables.specs.declared.refusal.Refusal.{Refusal}
 use Rattle.tables.specs.declared.refusal.Refusal.the-variants as refusal
 use Rattle.tables.specs.Refusals.{Reply, refused, answered}
-use Rattle.checks.specs.Checks.{first-refusal, or-answer, first-from, when, or-else, found}
+use Rattle.checks.specs.Checks.{first-refusal, or-answer, first-from, when, found}
 use Rattle.rules.specs.declared.Fields.{Fields}
 use Rattle.planfile.specs.declared.write.WriteAnswer.{WriteAnswer}
 use Rattle.planfile.specs.declared.write.WriteAnswer.the-variants.{Written, Refused}
 use Rattle.blocks.specs.File.{file-of, file-length}
-use Rattle.rules.specs.declared.Marks.{Marks}
 use Rattle.rules.specs.Rules.{header-rules}
 use Rattle.entries.specs.Entries.{entry-broken}
 
 -- what is written has its letters, its zeros and its length
-abbrev pub no-marks : Marks
-no-marks = record { letters = false; length = false; run_13 = false; run_48 = false }
+abbrev pub no-faults : Faults
+no-faults = record { letters = false; length = false; run_13 = false; run_48 = false }
 
 -- 6: "where its settings slice is under N or its buffer too short"
 abbrev pub write-short : (N settings file : ℕ) → Bool
 write-short N settings file = ltb settings N || ltb file (file-length N)
 
 -- "the writer 13, 6, 14"; room is the length of the lent file buffer
+abbrev pub writer-checks : Fields → List ℕ → ℕ → List (Option Refusal)
+writer-checks f settings room =
+    first-refusal (header-rules no-faults f)
+    ∷ when (write-short (f .scans) (length settings) room) refusal.Buffer
+    ∷ found refusal.Entry (first-from (entry-broken (f .scans) (f .settings) (f .law) (λ j. getD settings j 0)) 0 (f .scans))
+    ∷ []
+
 unfoldable pub write-refusal : Fields → List ℕ → ℕ → Option Refusal
-write-refusal f settings room =
-    or-else (first-refusal (header-rules no-marks f))
-    (or-else (when (write-short (f .scans) (length settings) room) refusal.Buffer)
-    (found refusal.Entry (first-from (entry-broken (f .scans) (f .settings) (f .law) (λ j. getD settings j 0)) 0 (f .scans))))
+write-refusal f settings room = first-refusal (writer-checks f settings room)
 
 unfoldable pub write-of : Fields → List ℕ → ℕ → Reply
 write-of f settings room = or-answer (write-refusal f settings room) (file-length (f .scans) ∷ [])

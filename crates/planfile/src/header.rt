@@ -1,4 +1,10 @@
-// Block 0 as it is read: its fields and its marks.
+// Block 0 as it is read: its fields and its faults.
+ghost use Rattle.blocks.specs.Sizes.{«block-size»};
+use blocks::sizes::ENTRIES;
+use blocks::sizes::FIRST_RUN;
+use blocks::sizes::LAST_RUN;
+use blocks::sizes::LONG_FILE;
+use blocks::sizes::SHORT_FILE;
 use bytes::numbers::eight;
 use bytes::numbers::four;
 use bytes::numbers::one;
@@ -6,19 +12,19 @@ use bytes::numbers::two;
 use checks::stage::Stage;
 use keys::cost::Dist;
 use keys::cost::Rate;
+use rules::Faults;
 use rules::Fields;
-use rules::Marks;
 use rules::rules;
 ghost use mathlib.Core.Path.{_≡_};
 ghost use Prim.Native.Nat.{_+_, _≤_};
 ghost use lib.ListN.{length, replicate};
 ghost use Rattle.bytes.specs.Bytes.{part, «number-at»};
 ghost use Rattle.blocks.specs.File.{letters, «other-length»};
-ghost use Rattle.planfile.specs.Reading.{differ, «fields-of», «marks-of», «broken-field»};
+ghost use Rattle.planfile.specs.Reading.{differ, «fields-of», «faults-of», «broken-field»};
 ghost use Rattle.checks.specs.Stages.{ended};
 
 pub fn fields(file: &[u8]) -> Fields
-    requires { ⌜ 512 ≤ length (now file) ⌝ }
+    requires { ⌜ block-size ≤ length (now file) ⌝ }
     ensures { λ r. ⌜ r ≡ fields-of (now (file .entry)) ⌝ }
 {
     let scans = two(file, 8);
@@ -48,7 +54,7 @@ pub fn fields(file: &[u8]) -> Fields
 }
 
 fn other_letters(file: &[u8]) -> bool
-    requires { ⌜ 512 ≤ length (now file) ⌝ }
+    requires { ⌜ block-size ≤ length (now file) ⌝ }
     ensures { λ r. ⌜ r ≡ differ letters (part 4 4 (now (file .entry))) ⌝ }
 {
     let fixed = b"QPL1";
@@ -81,21 +87,21 @@ fn not_zero(file: &[u8], at: usize, k: usize) -> bool
 fn wrong_length(length: usize, scans: u64) -> bool
     ensures { λ r. ⌜ r ≡ other-length length scans ⌝ }
 {
-    if 1008 < scans {
-        return length != 1536;
+    if (ENTRIES as u64) < scans {
+        return length != LONG_FILE;
     }
-    length != 1024
+    length != SHORT_FILE
 }
 
-fn marks(file: &[u8], scans: u64) -> Marks
-    requires { ⌜ (512 ≤ length (now file)) × (scans ≡ number-at 8 2 (now file)) ⌝ }
-    ensures { λ r. ⌜ r ≡ marks-of (now (file .entry)) ⌝ }
+fn faults(file: &[u8], scans: u64) -> Faults
+    requires { ⌜ (block-size ≤ length (now file)) × (scans ≡ number-at 8 2 (now file)) ⌝ }
+    ensures { λ r. ⌜ r ≡ faults-of (now (file .entry)) ⌝ }
 {
     let letters = other_letters(file);
     let length = wrong_length(file.len(), scans);
-    let run_13 = not_zero(file, 13, 3);
-    let run_48 = not_zero(file, 48, 460);
-    Marks {
+    let run_13 = not_zero(file, 13, FIRST_RUN);
+    let run_48 = not_zero(file, 48, LAST_RUN);
+    Faults {
         letters,
         length,
         run_13,
@@ -105,8 +111,8 @@ fn marks(file: &[u8], scans: u64) -> Marks
 
 // The third stage.
 pub fn header(file: &[u8], f: Fields) -> Stage
-    requires { ⌜ (512 ≤ length (now file)) × (f ≡ fields-of (now file)) ⌝ }
+    requires { ⌜ (block-size ≤ length (now file)) × (f ≡ fields-of (now file)) ⌝ }
     ensures { λ r. ⌜ ended r ≡ broken-field (now (file .entry)) ⌝ }
 {
-    rules(marks(file, f.scans), f)
+    rules(faults(file, f.scans), f)
 }

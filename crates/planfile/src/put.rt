@@ -1,6 +1,14 @@
 // A plan file as it is written: block 0, then the data blocks.
+ghost use Rattle.blocks.specs.BlockCheck.{«check-of»};
+ghost use Rattle.blocks.specs.Sizes.{«block-size», «body-size», «block-entries», «block-pairs»};
+use blocks::check::check_of;
 use blocks::packed::put;
-use blocks::sound::sum_of;
+use blocks::sizes::BLOCK;
+use blocks::sizes::BODY;
+use blocks::sizes::ENTRIES;
+use blocks::sizes::FIRST_RUN;
+use blocks::sizes::LAST_RUN;
+use blocks::sizes::PAIRS;
 use bytes::numbers::put_eight;
 use bytes::numbers::put_four;
 use bytes::numbers::put_one;
@@ -12,7 +20,6 @@ ghost use Prim.Native.Nat.{ℕ, suc, _+_, _*_, _≤_, _<_};
 ghost use lib.ListN.{length, getD};
 ghost use lib.Seq.{sets};
 ghost use Rattle.bytes.specs.Bytes.{le, part};
-ghost use Rattle.blocks.specs.Sum.{sum};
 ghost use Rattle.blocks.specs.File.{letters, sealed, header, pairs, «entry-of», «data-block»};
 
 // The four letters, from a fixed byte string.
@@ -28,18 +35,18 @@ fn put_letters(file: &mut [u8])
     }
 }
 
-// The sum of a block's first 508 bytes goes to its last four.
+// The check of a block's bytes goes to its last four.
 fn seal(file: &mut [u8], at: usize)
-    requires { ⌜ (at ≤ 1024) × (at + 512 ≤ length (now file)) ⌝ }
-    ensures { λ _. ⌜ now (file .exit) ≡ sets (now (file .entry)) (at + 508) (le 4 (sum (part at 508 (now (file .entry))))) ⌝ }
+    requires { ⌜ (at ≤ 1024) × (at + block-size ≤ length (now file)) ⌝ }
+    ensures { λ _. ⌜ now (file .exit) ≡ sets (now (file .entry)) (at + body-size) (le 4 (check-of (part at body-size (now (file .entry))))) ⌝ }
 {
-    let check = sum_of(file, at, 508);
-    put_four(file, at + 508, check);
+    let check = check_of(file, at);
+    put_four(file, at + BODY, check);
 }
 
 // Block 0, field after field.
 pub fn put_header(file: &mut [u8], f: Fields)
-    requires { ⌜ 512 ≤ length (now file) ⌝ }
+    requires { ⌜ block-size ≤ length (now file) ⌝ }
     ensures { λ _. ⌜ now (file .exit) ≡ sets (now (file .entry)) 0 (sealed (header f)) ⌝ }
 {
     put_four(file, 0, 0);
@@ -48,7 +55,7 @@ pub fn put_header(file: &mut [u8], f: Fields)
     put_one(file, 10, f.settings);
     put_one(file, 11, f.law);
     put_one(file, 12, f.kind);
-    put_zeros(file, 13, 3);
+    put_zeros(file, 13, FIRST_RUN);
     put_eight(file, 16, f.budget);
     put_four(file, 24, f.n);
     put_four(file, 28, f.d);
@@ -56,31 +63,31 @@ pub fn put_header(file: &mut [u8], f: Fields)
     put_four(file, 36, f.distortion.0);
     put_four(file, 40, f.peak);
     put_four(file, 44, f.floor.0);
-    put_zeros(file, 48, 460);
+    put_zeros(file, 48, LAST_RUN);
     seal(file, 0);
 }
 
 // The entries of data block b, counted from 0: the fillers first, and then the settings by entry number.
 fn put_entries(file: &mut [u8], b: usize, settings: &[u8], scans: usize)
-    requires { ⌜ (b < 2) × (512 * suc b + 512 ≤ length (now file)) ⌝ }
+    requires { ⌜ (b < 2) × (block-size * suc b + block-size ≤ length (now file)) ⌝ }
     requires { ⌜ (scans ≤ length (now settings)) × ((j : ℕ) → j < scans → getD (now settings) j 0 < 16) ⌝ }
-    ensures { λ _. ⌜ now (file .exit) ≡ sets (now (file .entry)) (512 * suc b + 4) (pairs (entry-of scans (now (settings .entry))) (1008 * b) 504) ⌝ }
+    ensures { λ _. ⌜ now (file .exit) ≡ sets (now (file .entry)) (block-size * suc b + 4) (pairs (entry-of scans (now (settings .entry))) (block-entries * b) block-pairs) ⌝ }
 {
-    put_zeros(file, 512 * (b + 1) + 4, 504);
-    let mut j = 1008 * b;
-    while j < scans && j < 1008 * (b + 1) {
+    put_zeros(file, BLOCK * (b + 1) + 4, PAIRS);
+    let mut j = ENTRIES * b;
+    while j < scans && j < ENTRIES * (b + 1) {
         put(file, j, settings[j]);
         j += 1;
     }
 }
 
-// Data block b, counted from 0: its number, its entries and its sum.
+// Data block b, counted from 0: its number, its entries and its check.
 pub fn put_data(file: &mut [u8], b: usize, settings: &[u8], scans: usize)
-    requires { ⌜ (b < 2) × (512 * suc b + 512 ≤ length (now file)) ⌝ }
+    requires { ⌜ (b < 2) × (block-size * suc b + block-size ≤ length (now file)) ⌝ }
     requires { ⌜ (scans ≤ length (now settings)) × ((j : ℕ) → j < scans → getD (now settings) j 0 < 16) ⌝ }
-    ensures { λ _. ⌜ now (file .exit) ≡ sets (now (file .entry)) (512 * suc b) (sealed (data-block (entry-of scans (now (settings .entry))) b)) ⌝ }
+    ensures { λ _. ⌜ now (file .exit) ≡ sets (now (file .entry)) (block-size * suc b) (sealed (data-block (entry-of scans (now (settings .entry))) b)) ⌝ }
 {
-    let at = 512 * (b + 1);
+    let at = BLOCK * (b + 1);
     put_four(file, at, b as u64 + 1);
     put_entries(file, b, settings, scans);
     seal(file, at);

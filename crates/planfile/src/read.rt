@@ -1,4 +1,5 @@
 // The reader: its stages in order, and then the settings.
+ghost use Rattle.blocks.specs.Sizes.{«block-size», «block-entries»};
 use crate::header::fields;
 use crate::header::header;
 use blocks::packed::get;
@@ -24,7 +25,7 @@ pub enum ReadAnswer {
 
 // The first `scans` entries go to the settings buffer.
 fn hand_over(file: &[u8], settings: &mut [u8], scans: usize)
-    requires { ⌜ (scans ≤ length (now settings)) × ((scans ≤ 2016) × ((j : ℕ) → j < scans → 512 * (j / 1008 + 2) ≤ length (now file))) ⌝ }
+    requires { ⌜ (scans ≤ length (now settings)) × ((scans ≤ 2 * block-entries) × ((j : ℕ) → j < scans → block-size * (j / block-entries + 2) ≤ length (now file))) ⌝ }
     ensures { λ _. ⌜ now (settings .exit) ≡ sets (now (settings .entry)) 0 (entries (entry-at (now (file .entry))) 0 scans) ⌝ }
 {
     let mut j = 0;

@@ -1,16 +1,20 @@
 // The writer: the rules in order, and then the bytes.
+ghost use Rattle.tables.specs.Limits.{«most-scans»};
+ghost use Rattle.blocks.specs.Sizes.{«block-size»};
 use crate::put::put_data;
 use crate::put::put_header;
+use blocks::sizes::BLOCK;
+use blocks::sizes::ENTRIES;
 use checks::stage::Stage;
 use checks::stage::unless;
 use checks::stage::why;
 use entries::check_settings;
+use rules::Faults;
 use rules::Fields;
-use rules::Marks;
 use rules::rules;
 use tables::refusal::Refusal;
 ghost use mathlib.Core.Path.{_≡_};
-ghost use Prim.Native.Nat.{ℕ, _≤_, _<_};
+ghost use Prim.Native.Nat.{ℕ, suc, _*_, _≤_, _<_};
 ghost use lib.ListN.{length, getD};
 ghost use lib.Seq.{sets};
 ghost use Rattle.blocks.specs.File.{«data-blocks», «file-length», «file-of»};
@@ -26,10 +30,18 @@ pub enum WriteAnswer {
 fn data_blocks(scans: u64) -> u64
     ensures { λ r. ⌜ (r ≡ data-blocks scans) × (r ≤ 2) ⌝ }
 {
-    if 1008 < scans {
+    if (ENTRIES as u64) < scans {
         return 2;
     }
     1
+}
+
+// The length of a file with so many data blocks.
+fn file_length(blocks: u64) -> u64
+    requires { ⌜ blocks ≤ 2 ⌝ }
+    ensures { λ r. ⌜ r ≡ block-size * suc blocks ⌝ }
+{
+    BLOCK as u64 * (blocks + 1)
 }
 
 // The settings slice is under N, or the buffer too short.
@@ -39,12 +51,12 @@ fn too_short(scans: u64, settings: u64, room: u64) -> bool
     if settings < scans {
         return true;
     }
-    room < 512 * (data_blocks(scans) + 1)
+    room < file_length(data_blocks(scans))
 }
 
 // The whole file, block after block; its length.
 fn put_file(file: &mut [u8], f: Fields, settings: &[u8]) -> u64
-    requires { ⌜ (f .scans ≤ 1024) × (file-length (f .scans) ≤ length (now file)) ⌝ }
+    requires { ⌜ (f .scans ≤ most-scans) × (file-length (f .scans) ≤ length (now file)) ⌝ }
     requires { ⌜ (f .scans ≤ length (now settings)) × ((j : ℕ) → j < f .scans → getD (now settings) j 0 < 16) ⌝ }
     ensures { λ r. ⌜ (r ≡ file-length (f .scans)) × (now (file .exit) ≡ sets (now (file .entry)) 0 (file-of f (now (settings .entry)))) ⌝ }
 {
@@ -55,7 +67,7 @@ fn put_file(file: &mut [u8], f: Fields, settings: &[u8]) -> u64
         put_data(file, b as usize, settings, f.scans as usize);
         b += 1;
     }
-    512 * (blocks + 1)
+    file_length(blocks)
 }
 
 // Writes the file of a plan to the front of the lent buffer.
@@ -63,14 +75,14 @@ pub fn write_plan(f: Fields, settings: &[u8], file: &mut [u8]) -> WriteAnswer
     ensures { λ r. ⌜ write-reply r ≡ write-of f (now (settings .entry)) (length (now (file .entry))) ⌝ }
     ensures { λ _. ⌜ now (file .exit) ≡ file-after (write-refusal f (now (settings .entry)) (length (now (file .entry)))) f (now (settings .entry)) (now (file .entry)) ⌝ }
 {
-    let marks = Marks {
+    let none = Faults {
         letters: false,
         length: false,
         run_13: false,
         run_48: false,
     };
     // Neither of the two needs the other. Their order is that of the answers below.
-    let headed = rules(marks, f);
+    let headed = rules(none, f);
     let roomed = unless(
         too_short(f.scans, settings.len() as u64, file.len() as u64),
         Refusal::Buffer,

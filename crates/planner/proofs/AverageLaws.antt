@@ -5,14 +5,13 @@ use native.Mathlib.Nat.{mul-le-mul-left, mul-le-mul-right}
 use native.Mathlib.Omega.{arith}
 use Rattle.criteria.specs.Choice.{Problem, Multiplier, Average}
 use Rattle.criteria.specs.Fraction.{gcd}
-use Rattle.criteria.proofs.Bound.{Certificate, at-zero, tied}
-use Rattle.criteria.proofs.Passes.{thrifty}
+use Rattle.criteria.specs.Found.{Certificate, at-zero, tied, thrifty}
 use Rattle.tables.specs.Limits.{most-term, most-total}
 use Rattle.walk.specs.declared.Totals.{Totals}
 use Rattle.walk.specs.Walked.{TotalsOf}
 use Rattle.promise.specs.declared.AveragePlan.{AveragePlan}
 use Rattle.promise.specs.Promise.{IsAveragePlan}
-use Rattle.seek.specs.Passes.{ThriftyTotals}
+use Rattle.seek.specs.Sought.{ThriftyTotals}
 use Rattle.search.specs.Search.{Bracketed}
 use Rattle.floor.specs.Reduced.{Reduced}
 

@@ -8,17 +8,17 @@ use Rattle.criteria.specs.Choice.{Problem, Ceiling}
 use Rattle.tables.specs.Limits.{most-cell}
 use Rattle.tables.specs.Tables.{table, planning}
 use Rattle.walk.specs.declared.Totals.{Totals}
-use Rattle.trellis.specs.Chosen.{chosen}
+use Rattle.trellis.specs.Choices.{chosen}
 use Rattle.checks.specs.Fit.{Fit}
 use Rattle.promise.specs.Promise.{totals, IsMinmaxPlan}
-use Rattle.seek.specs.Passes.{ThriftyTotals, ThriftyPass}
+use Rattle.seek.specs.Sought.{ThriftyTotals, ThriftyPass}
 use Rattle.search.specs.Search.{SomeFits, LeastCeiling}
 use Rattle.seek.proofs.SeekLaws.{peak-fits}
 
 -- the least-rate plan's peak is a ceiling under which something fits
-pub peak-bound : {N Q law room B : ℕ} {rates distortions : List ℕ} {t : Totals} → Fit N Q law rates distortions room →
+pub peak-bound : (law : ℕ) {N Q room B : ℕ} {rates distortions : List ℕ} {t : Totals} → Fit N Q rates distortions room →
     ThriftyTotals (planning (table N Q law rates distortions)) B t → t .peak ≤ most-cell
-peak-bound fit h = omega (arith, h .totals .peak, peak-fits fit (h .plan) (h .thriftiest .one))
+peak-bound law fit h = omega (arith, h .totals .peak, peak-fits law fit (h .plan) (h .thriftiest .one))
 
 pub thrifty-fits : {P : Problem} {B X : ℕ} {t : Totals} → X ≡ t .peak → ThriftyTotals P B t → SomeFits P B X
 thrifty-fits e h = (h .plan, (h .thriftiest .one, omega (arith, h .totals .peak)), h .fits)

@@ -3,8 +3,8 @@
 // The least-rate plan fits or nothing does. If the plan at multiplier zero is over B, each next plan is taken at the slope between the last
 // that fits and the last that does not, and replaces the one on its side, until it costs what they do: then it is the plan, and the tie with
 // the one over B shows that no smaller multiplier's plan fits.
-use checks::check::Checked;
 use checks::check::check;
+use checks::stage::Stage;
 use floor::answer;
 use promise::AverageAnswer;
 use search::slopes::Bracket;
@@ -15,19 +15,18 @@ use seek::start::Started;
 use seek::start::start;
 use walk::Totals;
 use walk::total_up;
-ghost use mathlib.Core.Bool.{false};
+ghost use mathlib.Core.Option.{none};
 ghost use Prim.Native.Nat.{_≤_};
 ghost use lib.ListN.{length};
-ghost use Rattle.checks.specs.Planning.{Sound};
+ghost use Rattle.checks.specs.Planning.{Sound, asking};
 ghost use Rattle.tables.specs.Tables.{table, planning};
 ghost use Rattle.checks.specs.Fit.{Fit};
-ghost use Rattle.checks.specs.Checked.{asking};
-ghost use Rattle.seek.specs.Passes.{ThriftyTotals};
-ghost use Rattle.planner.specs.Given.{Given};
+ghost use Rattle.seek.specs.Sought.{ThriftyTotals};
+ghost use Rattle.planner.specs.Given.{Delivered};
 ghost use Rattle.promise.specs.Promise.{AveragePromise, IsAveragePlan, «average-reply»};
 
 // Where the least-rate plan, lo, fits: the plan at multiplier zero, or the slopes.
-fn average_from(
+fn average_that_fits(
     scans: usize,
     settings: usize,
     law: u64,
@@ -38,9 +37,9 @@ fn average_from(
     plan: &mut [u8],
     scratch: &mut [u8],
 ) -> AverageAnswer
-    requires { ⌜ Fit scans settings law (now rates) (now distortions) (length (now scratch)) × (scans ≤ length (now plan)) ⌝ }
+    requires { ⌜ Fit scans settings (now rates) (now distortions) (length (now scratch)) × (scans ≤ length (now plan)) ⌝ }
     requires { ⌜ ThriftyTotals (planning (table scans settings law (now rates) (now distortions))) budget lo ⌝ }
-    ensures { λ r. ⌜ Given (IsAveragePlan (planning (table scans settings law (now (rates .entry)) (now (distortions .entry)))) budget) scans settings (now (plan .entry)) (now (scratch .entry)) (average-reply r) (now (plan .exit)) (now (scratch .exit)) ⌝ }
+    ensures { λ r. ⌜ Delivered (IsAveragePlan (planning (table scans settings law (now (rates .entry)) (now (distortions .entry)))) budget) scans settings (now (plan .entry)) (now (scratch .entry)) (average-reply r) (now (plan .exit)) (now (scratch .exit)) ⌝ }
 {
     multiplier_pass(scans, settings, law, 0, 1, rates, distortions, scratch);
     let hi = total_up(scans, settings, law, rates, distortions, scratch);
@@ -63,7 +62,7 @@ fn average_from(
 }
 
 // Where the checks have passed.
-fn average_of(
+fn sound_average(
     scans: usize,
     settings: usize,
     law: u64,
@@ -73,12 +72,12 @@ fn average_of(
     plan: &mut [u8],
     scratch: &mut [u8],
 ) -> AverageAnswer
-    requires { ⌜ Sound false (asking scans settings law (now rates) (now distortions) (length (now plan)) (length (now scratch))) ⌝ }
+    requires { ⌜ Sound none (asking scans settings law (now rates) (now distortions) (length (now plan)) (length (now scratch))) ⌝ }
     ensures { λ r. ⌜ AveragePromise (asking scans settings law (now (rates .entry)) (now (distortions .entry)) (length (now (plan .entry))) (length (now (scratch .entry)))) budget (now (plan .entry)) (now (scratch .entry)) r (now (plan .exit)) (now (scratch .exit)) ⌝ }
 {
     let started = start(scans, settings, law, budget, rates, distortions, scratch);
     match started {
-        Started::Plan(lo) => average_from(
+        Started::Plan(lo) => average_that_fits(
             scans,
             settings,
             law,
@@ -109,14 +108,14 @@ pub fn average_plan(
         scans,
         settings,
         law,
-        false,
+        Stage::Passed,
         rates,
         distortions,
         plan.len(),
         scratch.len(),
     );
-    let Checked::Refused(r) = checked else {
-        return average_of(
+    let Stage::Stopped(r) = checked else {
+        return sound_average(
             scans as usize,
             settings as usize,
             law,

@@ -1,20 +1,19 @@
 // Ceiling X: among allowed sequences with peak at most X, least rate, then least distortion, then first.
-use checks::check::Checked;
 use checks::check::check;
+use checks::stage::Stage;
 use promise::PlanAnswer;
 use seek::finish::finish;
 use seek::passes::NO_CEILING;
 use seek::passes::thrifty_pass;
 use tables::refusal::Refusal;
 use walk::wipe;
-ghost use mathlib.Core.Bool.{false};
+ghost use mathlib.Core.Option.{none};
 ghost use lib.ListN.{length};
-ghost use Rattle.checks.specs.Planning.{Sound};
-ghost use Rattle.checks.specs.Checked.{asking};
+ghost use Rattle.checks.specs.Planning.{Sound, asking};
 ghost use Rattle.promise.specs.Promise.{CeilingPromise};
 
 // Where the checks have passed.
-fn ceiling_of(
+fn sound_ceiling(
     scans: usize,
     settings: usize,
     law: u64,
@@ -24,7 +23,7 @@ fn ceiling_of(
     plan: &mut [u8],
     scratch: &mut [u8],
 ) -> PlanAnswer
-    requires { ⌜ Sound false (asking scans settings law (now rates) (now distortions) (length (now plan)) (length (now scratch))) ⌝ }
+    requires { ⌜ Sound none (asking scans settings law (now rates) (now distortions) (length (now plan)) (length (now scratch))) ⌝ }
     ensures { λ r. ⌜ CeilingPromise (asking scans settings law (now (rates .entry)) (now (distortions .entry)) (length (now (plan .entry))) (length (now (scratch .entry)))) ceiling (now (plan .entry)) (now (scratch .entry)) r (now (plan .exit)) (now (scratch .exit)) ⌝ }
 {
     if thrifty_pass(scans, settings, law, ceiling, rates, distortions, scratch) {
@@ -40,7 +39,7 @@ fn ceiling_of(
         distortions,
         scratch,
     );
-    wipe(scratch, scans * settings);
+    wipe(scratch, scans, settings);
     if any {
         return PlanAnswer::Refused(Refusal::NoneWithin);
     }
@@ -63,14 +62,14 @@ pub fn ceiling_plan(
         scans,
         settings,
         law,
-        false,
+        Stage::Passed,
         rates,
         distortions,
         plan.len(),
         scratch.len(),
     );
-    let Checked::Refused(r) = checked else {
-        return ceiling_of(
+    let Stage::Stopped(r) = checked else {
+        return sound_ceiling(
             scans as usize,
             settings as usize,
             law,

@@ -1,6 +1,8 @@
 // Minmax, budget B: the least X for which some allowed sequence has peak at most X and rate at most B; then the ceiling plan for that X.
-use checks::check::Checked;
+use bytes::cast::cell_to_number;
+use bytes::cast::number_to_cell;
 use checks::check::check;
+use checks::stage::Stage;
 use promise::MinmaxAnswer;
 use promise::MinmaxPlan;
 use search::halving::least_ceiling;
@@ -9,33 +11,18 @@ use seek::passes::thrifty_pass;
 use seek::start::Started;
 use seek::start::start;
 use walk::Totals;
-ghost use mathlib.Core.Path.{_≡_};
-ghost use mathlib.Core.Bool.{false};
-ghost use Prim.Native.Nat.{_≤_, _<_};
+ghost use mathlib.Core.Option.{none};
+ghost use Prim.Native.Nat.{_≤_};
 ghost use lib.ListN.{length};
-ghost use Rattle.checks.specs.Planning.{Sound};
+ghost use Rattle.checks.specs.Planning.{Sound, asking};
 ghost use Rattle.tables.specs.Tables.{table, planning};
 ghost use Rattle.checks.specs.Fit.{Fit};
-ghost use Rattle.checks.specs.Checked.{asking};
-ghost use Rattle.seek.specs.Passes.{ThriftyTotals};
-ghost use Rattle.planner.specs.Given.{Given};
+ghost use Rattle.seek.specs.Sought.{ThriftyTotals};
+ghost use Rattle.planner.specs.Given.{Delivered};
 ghost use Rattle.promise.specs.Promise.{MinmaxPromise, IsMinmaxPlan, «minmax-reply»};
 
-fn wide(x: u32) -> u64
-    ensures { λ r. ⌜ r ≡ x ⌝ }
-{
-    x as u64
-}
-
-fn cell(x: u64) -> u32
-    requires { ⌜ x < 4294967296 ⌝ }
-    ensures { λ r. ⌜ r ≡ x ⌝ }
-{
-    x as u32
-}
-
 // Where the least-rate plan fits.
-fn minmax_from(
+fn minmax_that_fits(
     scans: usize,
     settings: usize,
     law: u64,
@@ -46,16 +33,16 @@ fn minmax_from(
     plan: &mut [u8],
     scratch: &mut [u8],
 ) -> MinmaxAnswer
-    requires { ⌜ Fit scans settings law (now rates) (now distortions) (length (now scratch)) × (scans ≤ length (now plan)) ⌝ }
+    requires { ⌜ Fit scans settings (now rates) (now distortions) (length (now scratch)) × (scans ≤ length (now plan)) ⌝ }
     requires { ⌜ ThriftyTotals (planning (table scans settings law (now rates) (now distortions))) budget thriftiest ⌝ }
-    ensures { λ r. ⌜ Given (IsMinmaxPlan (planning (table scans settings law (now (rates .entry)) (now (distortions .entry)))) budget) scans settings (now (plan .entry)) (now (scratch .entry)) (minmax-reply r) (now (plan .exit)) (now (scratch .exit)) ⌝ }
+    ensures { λ r. ⌜ Delivered (IsMinmaxPlan (planning (table scans settings law (now (rates .entry)) (now (distortions .entry)))) budget) scans settings (now (plan .entry)) (now (scratch .entry)) (minmax-reply r) (now (plan .exit)) (now (scratch .exit)) ⌝ }
 {
     let ceiling = least_ceiling(
         scans,
         settings,
         law,
         budget,
-        cell(thriftiest.peak),
+        number_to_cell(thriftiest.peak),
         rates,
         distortions,
         scratch,
@@ -63,13 +50,13 @@ fn minmax_from(
     thrifty_pass(scans, settings, law, ceiling, rates, distortions, scratch);
     let totals = finish(scans, settings, law, rates, distortions, plan, scratch);
     MinmaxAnswer::Planned(MinmaxPlan {
-        ceiling: wide(ceiling),
+        ceiling: cell_to_number(ceiling),
         totals,
     })
 }
 
 // Where the checks have passed.
-fn minmax_of(
+fn sound_minmax(
     scans: usize,
     settings: usize,
     law: u64,
@@ -79,12 +66,12 @@ fn minmax_of(
     plan: &mut [u8],
     scratch: &mut [u8],
 ) -> MinmaxAnswer
-    requires { ⌜ Sound false (asking scans settings law (now rates) (now distortions) (length (now plan)) (length (now scratch))) ⌝ }
+    requires { ⌜ Sound none (asking scans settings law (now rates) (now distortions) (length (now plan)) (length (now scratch))) ⌝ }
     ensures { λ r. ⌜ MinmaxPromise (asking scans settings law (now (rates .entry)) (now (distortions .entry)) (length (now (plan .entry))) (length (now (scratch .entry)))) budget (now (plan .entry)) (now (scratch .entry)) r (now (plan .exit)) (now (scratch .exit)) ⌝ }
 {
     let started = start(scans, settings, law, budget, rates, distortions, scratch);
     match started {
-        Started::Plan(thriftiest) => minmax_from(
+        Started::Plan(thriftiest) => minmax_that_fits(
             scans,
             settings,
             law,
@@ -115,14 +102,14 @@ pub fn minmax_plan(
         scans,
         settings,
         law,
-        false,
+        Stage::Passed,
         rates,
         distortions,
         plan.len(),
         scratch.len(),
     );
-    let Checked::Refused(r) = checked else {
-        return minmax_of(
+    let Stage::Stopped(r) = checked else {
+        return sound_minmax(
             scans as usize,
             settings as usize,
             law,

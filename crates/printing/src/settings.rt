@@ -1,17 +1,11 @@
 // The settings of a plan, one after the other.
 use crate::put::put;
 use crate::put::put_spaced;
-ghost use mathlib.Core.Path.{_≡_};
+use bytes::cast::byte_to_number;
 ghost use Prim.Native.Nat.{_+_, _*_, _≤_, _<_};
 ghost use lib.ListN.{length};
 ghost use Rattle.printing.specs.Lines.{numbered, planned};
 ghost use Rattle.printing.specs.Parts.{Put};
-
-fn wide(b: u8) -> u64
-    ensures { λ r. ⌜ (r ≡ b) × (r < 256) ⌝ }
-{
-    b as u64
-}
 
 // A space and three digits at most for each setting.
 fn put_settings(out: &mut [u8], at: usize, settings: &[u8]) -> usize
@@ -22,7 +16,7 @@ fn put_settings(out: &mut [u8], at: usize, settings: &[u8]) -> usize
     let mut next = at;
     let mut i = 0;
     while i < settings.len() {
-        next = put_spaced(out, next, wide(settings[i]));
+        next = put_spaced(out, next, byte_to_number(settings[i]));
         i += 1;
     }
     next

@@ -1,1 +1,5 @@
-pub mod Settled
+-- What the promises of the planning calls settle.
+pub mod Unique
+pub mod Exactly
+pub mod Demands
+pub mod Hidden

@@ -1,15 +1,16 @@
 -- What a planning call promises: one relation between what it was asked, what it answers and what it leaves in the lent buffers.
 -- Assumes nothing.
 use mathlib.Core.Path.{_≡_}
-use mathlib.Core.Bool.{Bool, false}
+use mathlib.Core.Option.{Option, none}
 use mathlib.Core.List.{List, [], _∷_, _++_}
-use Prim.Native.Nat.{ℕ, _*_}
+use Prim.Native.Nat.{ℕ}
 use lib.ListN.{drop, replicate}
 use Rattle.criteria.specs.Choice.{Problem, UnderCeiling, InBudget, Ceiling, Multiplier, Average, AverageFloor, Minmax, NoneAllowed, NoneWithin}
 use Rattle.tables.specs.declared.refusal.Refusal.{Refusal}
 use Rattle.tables.specs.declared.refusal.Refusal.the-variants as refusal
 use Rattle.tables.specs.Refusals.{Reply, refused, answered}
-use Rattle.checks.specs.Planning.{Asked, Unsound, Sound, problem-of, multiplier-out}
+use Rattle.checks.specs.Planning.{Asked, Unsound, Sound, problem-of, fourth-check}
+use Rattle.tables.specs.Tables.{scratch-need}
 use Rattle.promise.specs.declared.PlanAnswer.{PlanAnswer}
 use Rattle.promise.specs.declared.PlanAnswer.the-variants as plan-answer
 use Rattle.promise.specs.declared.MinmaxAnswer.{MinmaxAnswer}
@@ -20,28 +21,28 @@ use Rattle.walk.specs.declared.Totals.{Totals}
 
 -- "the first N × Q scratch bytes are zero", "extra bytes never change"
 abbrev pub wiped : Asked → List ℕ → List ℕ
-wiped a scratch = replicate (a .N * a .Q) 0 ++ drop (a .N * a .Q) scratch
+wiped a scratch = replicate (scratch-need (a .N) (a .Q)) 0 ++ drop (scratch-need (a .N) (a .Q)) scratch
 
 -- "Settings go to the first N bytes of the plan buffer, one each."
 abbrev pub handed : Asked → List ℕ → List ℕ → List ℕ
 handed a s plan = s ++ drop (a .N) plan
 
--- `within` is what the limit asks of a sequence, `Plan s v` says that s is the plan and v the values of the answer; plan and scratch are
+-- `further` is the check that the call has between 3 and 5, `within` is what the limit asks of a sequence, `Plan s v` says that s is the plan and v the values of the answer; plan and scratch are
 -- the lent buffers before the call, plan′ and scratch′ after it.
-pub data Promise (fourth : Bool) (a : Asked) (within : List ℕ → Type 0) (Plan : List ℕ → List ℕ → Type 0)
+pub data Promise (further : Option Refusal) (a : Asked) (within : List ℕ → Type 0) (Plan : List ℕ → List ℕ → Type 0)
     (plan scratch : List ℕ) (reply : Reply) (plan′ scratch′ : List ℕ) : Type 0 where
   -- "On refusals 1 to 7 all buffers stay the same."
-  unsound : {r : Refusal} → Unsound fourth a r → reply ≡ refused r → plan′ ≡ plan → scratch′ ≡ scratch →
-      Promise fourth a within Plan plan scratch reply plan′ scratch′
+  unsound : {r : Refusal} → Unsound further a r → reply ≡ refused r → plan′ ≡ plan → scratch′ ≡ scratch →
+      Promise further a within Plan plan scratch reply plan′ scratch′
   -- 8, "no allowed sequence, whatever the limit"; "on 8 and 9 the plan buffer stays the same"
-  no-sequence : Sound fourth a → NoneAllowed (problem-of a) → reply ≡ refused refusal.NoSequence → plan′ ≡ plan → scratch′ ≡ wiped a scratch →
-      Promise fourth a within Plan plan scratch reply plan′ scratch′
+  no-sequence : Sound further a → NoneAllowed (problem-of a) → reply ≡ refused refusal.NoSequence → plan′ ≡ plan → scratch′ ≡ wiped a scratch →
+      Promise further a within Plan plan scratch reply plan′ scratch′
   -- 9, "allowed sequences exist, none within ceiling or budget"
-  none-within : Sound fourth a → NoneWithin (problem-of a) within → reply ≡ refused refusal.NoneWithin → plan′ ≡ plan →
-      scratch′ ≡ wiped a scratch → Promise fourth a within Plan plan scratch reply plan′ scratch′
+  none-within : Sound further a → NoneWithin (problem-of a) within → reply ≡ refused refusal.NoneWithin → plan′ ≡ plan →
+      scratch′ ≡ wiped a scratch → Promise further a within Plan plan scratch reply plan′ scratch′
   -- "On success only the first N bytes of the plan buffer may differ."
-  planned : Sound fourth a → (s v : List ℕ) → Plan s v → reply ≡ answered v → plan′ ≡ handed a s plan → scratch′ ≡ wiped a scratch →
-      Promise fourth a within Plan plan scratch reply plan′ scratch′
+  planned : Sound further a → (s v : List ℕ) → Plan s v → reply ≡ answered v → plan′ ≡ handed a s plan → scratch′ ≡ wiped a scratch →
+      Promise further a within Plan plan scratch reply plan′ scratch′
 
 -- "An answer holds rate, distortion and peak, for minmax also X, for average also n, d and F."
 abbrev pub totals : Problem → List ℕ → List ℕ
@@ -67,15 +68,15 @@ pub record IsAveragePlan (P : Problem) (B : ℕ) (s v : List ℕ) : Type 0 where
   pub values : v ≡ n ∷ d ∷ P .rate s ∷ P .distortion s ∷ P .peak s ∷ floor ∷ []
 
 -- The number and the values of each call's answer, in the order of the C surface.
-abbrev pub values-of : Totals → List ℕ
-values-of t = t .rate .0 ∷ t .distortion .0 ∷ t .peak ∷ []
+abbrev pub total-values : Totals → List ℕ
+total-values t = t .rate .0 ∷ t .distortion .0 ∷ t .peak ∷ []
 
 abbrev pub plan-reply : PlanAnswer → Reply
-plan-reply (plan-answer.Planned t) = answered (values-of t)
+plan-reply (plan-answer.Planned t) = answered (total-values t)
 plan-reply (plan-answer.Refused r) = refused r
 
 abbrev pub minmax-reply : MinmaxAnswer → Reply
-minmax-reply (minmax-answer.Planned m) = answered (m .ceiling ∷ values-of (m .totals))
+minmax-reply (minmax-answer.Planned m) = answered (m .ceiling ∷ total-values (m .totals))
 minmax-reply (minmax-answer.Refused r) = refused r
 
 abbrev pub average-reply : AverageAnswer → Reply
@@ -86,17 +87,17 @@ average-reply (average-answer.Refused r) = refused r
 -- The promises of the four calls.
 abbrev pub CeilingPromise : Asked → ℕ → (plan scratch : List ℕ) → PlanAnswer → (plan′ scratch′ : List ℕ) → Type 0
 CeilingPromise a X plan scratch r plan′ scratch′ =
-    Promise false a (UnderCeiling (problem-of a) X) (IsCeilingPlan (problem-of a) X) plan scratch (plan-reply r) plan′ scratch′
+    Promise none a (UnderCeiling (problem-of a) X) (IsCeilingPlan (problem-of a) X) plan scratch (plan-reply r) plan′ scratch′
 
 -- a multiplier is no limit: every allowed sequence is within it, so 9 is never given
 abbrev pub MultiplierPromise : Asked → ℕ → ℕ → (plan scratch : List ℕ) → PlanAnswer → (plan′ scratch′ : List ℕ) → Type 0
 MultiplierPromise a n d plan scratch r plan′ scratch′ =
-    Promise (multiplier-out n d) a (problem-of a .allowed) (IsMultiplierPlan (problem-of a) n d) plan scratch (plan-reply r) plan′ scratch′
+    Promise (fourth-check n d) a (problem-of a .allowed) (IsMultiplierPlan (problem-of a) n d) plan scratch (plan-reply r) plan′ scratch′
 
 abbrev pub MinmaxPromise : Asked → ℕ → (plan scratch : List ℕ) → MinmaxAnswer → (plan′ scratch′ : List ℕ) → Type 0
 MinmaxPromise a B plan scratch r plan′ scratch′ =
-    Promise false a (InBudget (problem-of a) B) (IsMinmaxPlan (problem-of a) B) plan scratch (minmax-reply r) plan′ scratch′
+    Promise none a (InBudget (problem-of a) B) (IsMinmaxPlan (problem-of a) B) plan scratch (minmax-reply r) plan′ scratch′
 
 abbrev pub AveragePromise : Asked → ℕ → (plan scratch : List ℕ) → AverageAnswer → (plan′ scratch′ : List ℕ) → Type 0
 AveragePromise a B plan scratch r plan′ scratch′ =
-    Promise false a (InBudget (problem-of a) B) (IsAveragePlan (problem-of a) B) plan scratch (average-reply r) plan′ scratch′
+    Promise none a (InBudget (problem-of a) B) (IsAveragePlan (problem-of a) B) plan scratch (average-reply r) plan′ scratch′

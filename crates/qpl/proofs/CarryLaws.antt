@@ -1,34 +1,37 @@
 -- What a refusal carries is below 2 ^ 32, whichever call gives it, and what a call answers can be told. Assumes nothing.
 use mathlib.Core.Path.{_≡_, refl, ap}
-use mathlib.Core.Bool.{Bool, true, false, cond, _&&_}
+use mathlib.Core.Bool.{Bool, true, false, cond}
 use mathlib.Core.Option.{Option, none, some}
 use mathlib.Core.List.{List, [], _∷_}
-use Prim.Native.Nat.{ℕ, zero, suc, _+_, _*_, _-_, _/_, _≤_, _<_, _^_}
+use Prim.Native.Nat.{ℕ, _*_, _-_, _/_, _≤_, _<_, _^_}
 use native.Mathlib.Omega.{arith}
 use lib.Dec.{ltb}
 use lib.ListN.{length, getD}
-use borrow.Author.Tests.{ltb-true, ltb-false, lt-ltb, le-ltb, ne-eqb, eqb-true, not-false}
+use borrow.Author.Tests.{ltb-false, lt-ltb, le-ltb, ne-eqb}
 use Rattle.tables.specs.declared.refusal.Refusal.{Refusal}
 use Rattle.tables.specs.declared.refusal.Refusal.the-variants as refusal
 use Rattle.tables.specs.Refusals.{Reply, refused, answered, numberOf, carriedBy}
 use Rattle.tables.specs.Limits.{most-scans, most-settings}
-use Rattle.tables.specs.Tables.{cells}
-use Rattle.checks.specs.Planning.{Asked, planning-checks, early-refusal, Unsound, early, illegal}
-use Rattle.checks.specs.Checks.{Check, or-later, first-refusal, or-answer, first-from, when, or-else, found}
+use Rattle.tables.specs.Tables.{cells, scratch-need}
+use Rattle.checks.specs.Planning.{Asked, Unsound, early, illegal, channels-out, scans-out, settings-out}
+use Rattle.checks.proofs.GiveLaws.{Gives, given, gives-when, gives-else, gives-first, gives-found}
+use Rattle.checks.proofs.PlanningLaws.{early-gives, admitted, lengths-exact, sound-fit, sound-plan}
+use Rattle.rules.proofs.FieldLaws.{rules-give}
+use Rattle.rules.specs.Rules.{header-rules}
+use Rattle.rules.specs.declared.Faults.{Faults}
+use Rattle.checks.specs.Checks.{first-refusal, or-answer, first-from, found, when}
 use Rattle.room.specs.Room.{room-checks, room-of}
 use Rattle.checks.proofs.RangeLaws.{in-range}
 use Rattle.laws.proofs.Tests.{neither}
 use Rattle.tables.proofs.CellLaws.{cells-small}
 use Rattle.tables.proofs.RefusalLaws.{never-zero}
 use Rattle.rules.specs.declared.Fields.{Fields}
-use Rattle.rules.specs.declared.Marks.{Marks}
 use Rattle.blocks.specs.File.{entry-at, file-length}
-use Rattle.rules.specs.Rules.{header-rules}
 use Rattle.entries.specs.Entries.{entry-broken}
 use Rattle.blocks.specs.Blocks.{length-out, block-broken, bad-block}
-use Rattle.planfile.specs.Reading.{bad-entry, broken-field, fields-of, marks-of, read-refusal, read-of, values-of}
-use Rattle.planfile.specs.Writing.{no-marks, write-short, write-refusal, write-of}
-use Rattle.checks.proofs.CheckLaws.{all-pass, none-when}
+use Rattle.planfile.specs.Reading.{bad-entry, broken-field, fields-of, faults-of, read-refusal, read-of, field-values}
+use Rattle.planfile.specs.Writing.{no-faults, write-short, write-refusal, write-of}
+use Rattle.checks.proofs.CheckLaws.{none-when}
 use Rattle.planfile.proofs.ReadLaws.{two-lengths}
 use Rattle.planfile.proofs.WriteLaws.{scans-inside}
 use Rattle.planfile.proofs.Accepted.{passed}
@@ -39,102 +42,65 @@ use Rattle.promise.specs.declared.MinmaxAnswer.the-variants as minmax-answer
 use Rattle.promise.specs.declared.AverageAnswer.{AverageAnswer}
 use Rattle.promise.specs.declared.AverageAnswer.the-variants as average-answer
 use Rattle.promise.specs.Promise.{Promise, unsound, no-sequence, none-within, planned, plan-reply, minmax-reply, average-reply}
-use Rattle.checks.proofs.PlanningLaws.{sound-fit, sound-plan}
 use Rattle.telling.specs.Told.{lent}
 use Rattle.qpl.specs.Surface.{room-told}
 use Rattle.telling.specs.Parts.{Tellable}
 use Rattle.telling.proofs.AnswerLaws.{tellable-refusal}
 
--- what is refused, if anything is, carries less than 2 ^ 32
-abbrev pub Light : Option Refusal → Type 0
-Light none = Unit {0}
-Light (some r) = carriedBy r < 2 ^ 32
+-- a refusal carries less than 2 ^ 32
+abbrev pub Little : Refusal → Type 0
+Little r = carriedBy r < 2 ^ 32
 
-light-when : (t : Bool) (r : Refusal) → carriedBy r < 2 ^ 32 → Light (when t r)
-light-when true r h = h
-light-when false r h = tt
+-- the refusals of each call
+rules-light : (m : Faults) (f : Fields) → Gives Little (first-refusal (header-rules m f))
+rules-light m f = rules-give Little m f (λ byte h. omega arith)
 
-light-else : (o p : Option Refusal) → Light o → (o ≡ none → Light p) → Light (or-else o p)
-light-else none p h g = g refl
-light-else (some r) p h g = h
-
-light-later : (t : Bool) (r : Refusal) (later : Option Refusal) → carriedBy r < 2 ^ 32 → Light later → Light (or-later t r later)
-light-later true r later h g = h
-light-later false r later h g = g
-
--- every refusal of a list of checks carries little: a test that computes
-abbrev all-light : List Check → Bool
-all-light [] = true
-all-light (c ∷ l) = ltb (carriedBy (c .gives)) 4294967296 && all-light l
-
-light-first : (l : List Check) → all-light l ≡ true → Light (first-refusal l)
-light-first [] e = tt
-light-first (c ∷ l) e =
-    let h = both (ltb (carriedBy (c .gives)) 4294967296) (all-light l) e in
-    light-later (c .fails) (c .gives) (first-refusal l) (ltb-true (carriedBy (c .gives)) 4294967296 (h .0)) (light-first l (h .1))
-  where
-    both : (s t : Bool) → (s && t) ≡ true → (s ≡ true) × (t ≡ true)
-    both true t e = (refl, e)
-    both false t e = absurd (let z : _≡_ {A = ℕ} 0 1 = cc in omega arith)
-
--- the first of n numbers from j on
-light-found : (n : ℕ) (r : ℕ → Refusal) (bad : ℕ → Bool) (j : ℕ) → ((i : ℕ) → i < j + n → carriedBy (r i) < 2 ^ 32) →
-    Light (found r (first-from bad j n))
-light-found zero r bad j h = tt
-light-found (suc n) r bad j h = of (bad j) (h j (omega arith)) (light-found n r bad (suc j) (λ i g. h i (omega arith)))
-  where
-    of : (t : Bool) → carriedBy (r j) < 2 ^ 32 → Light (found r (first-from bad (suc j) n)) →
-        Light (found r (cond t (some j) (first-from bad (suc j) n)))
-    of true a b = a
-    of false a b = b
-
-pub room-light : (C N Q : ℕ) → Light (first-refusal (room-checks C N Q))
-room-light C N Q = light-first (room-checks C N Q) refl
-
-rules-light : (m : Marks) (f : Fields) → Light (first-refusal (header-rules m f))
-rules-light m f = light-first (header-rules m f) refl
+pub room-light : (C N Q : ℕ) → Gives Little (first-refusal (room-checks C N Q))
+room-light C N Q = gives-first Little (room-checks C N Q) (
+  gives-when Little (channels-out C) refusal.Channels (omega arith),
+  (gives-when Little (scans-out N) refusal.Scans (omega arith), (gives-when Little (settings-out Q) refusal.Settings (omega arith), tt)),
+)
 
 -- a block's number is below 3, and an entry's below 2,016
-pub read-light : (file : List ℕ) (room : ℕ) → Light (read-refusal file room)
+pub read-light : (file : List ℕ) (room : ℕ) → Gives Little (read-refusal file room)
 unfolding read-refusal broken-field bad-block bad-entry
 read-light file room =
-    light-else (when (length-out (length file)) refusal.FileLength) _ (light-when (length-out (length file)) refusal.FileLength (omega arith)) (λ e.
+    gives-else Little (when (length-out (length file)) refusal.FileLength) _ (gives-when Little (length-out (length file)) refusal.FileLength (omega arith)) (λ e.
     let n = two-lengths (length file) (none-when (length-out (length file)) refusal.FileLength e) in
-    light-else (found refusal.Block (bad-block file)) _
-    (light-found (length file / 512) refusal.Block (block-broken file) 0 (λ i h. omega arith)) (λ f.
-    light-else (broken-field file) _ (rules-light (marks-of file) (fields-of file)) (λ g.
-    light-else (when (ltb room (fields-of file .scans)) refusal.Buffer) _
-    (light-when (ltb room (fields-of file .scans)) refusal.Buffer (omega arith)) (λ h.
-    light-found (1008 * (length file / 512 - 1)) refusal.Entry
-    (entry-broken (fields-of file .scans) (fields-of file .settings) (fields-of file .law) (entry-at file)) 0 (λ i l. omega arith)))))
+    gives-else Little (found refusal.Block (bad-block file)) _
+    (gives-found Little (length file / 512) refusal.Block (block-broken file) 0 (λ i h. omega arith)) (λ f.
+    gives-else Little (broken-field file) _ (rules-light (faults-of file) (fields-of file)) (λ g.
+    gives-else Little (when (ltb room (fields-of file .scans)) refusal.Buffer) _
+    (gives-when Little (ltb room (fields-of file .scans)) refusal.Buffer (omega arith)) (λ h.
+    gives-else Little (found refusal.Entry (bad-entry file)) none (gives-found Little (1008 * (length file / 512 - 1)) refusal.Entry
+    (entry-broken (fields-of file .scans) (fields-of file .settings) (fields-of file .law) (entry-at file)) 0 (λ i l. omega arith)) (λ z. tt)))))
 
 -- an entry's number is below N
-pub write-light : (f : Fields) (settings : List ℕ) (room : ℕ) → Light (write-refusal f settings room)
+pub write-light : (f : Fields) (settings : List ℕ) (room : ℕ) → Gives Little (write-refusal f settings room)
 unfolding write-refusal
 write-light f settings room =
-    light-else (first-refusal (header-rules no-marks f)) _ (rules-light no-marks f) (λ e.
+    let bad : ℕ → Bool = entry-broken (f .scans) (f .settings) (f .law) (λ j. getD settings j 0) in
+    gives-else Little (first-refusal (header-rules no-faults f)) _ (rules-light no-faults f) (λ e.
     let n = scans-inside f e in
-    light-else (when (write-short (f .scans) (length settings) room) refusal.Buffer) _
-    (light-when (write-short (f .scans) (length settings) room) refusal.Buffer (omega arith)) (λ g.
-    light-found (f .scans) refusal.Entry (entry-broken (f .scans) (f .settings) (f .law) (λ j. getD settings j 0)) 0 (λ i h. omega arith)))
+    gives-else Little (when (write-short (f .scans) (length settings) room) refusal.Buffer) _
+    (gives-when Little (write-short (f .scans) (length settings) room) refusal.Buffer (omega arith)) (λ g.
+    gives-else Little (found refusal.Entry (first-from bad 0 (f .scans))) none (gives-found Little (f .scans) refusal.Entry bad 0 (λ i h. omega arith)) (λ z. tt)))
 
 -- a cell's number is below the number of cells
-pub unsound-light : {fourth : Bool} {a : Asked} {r : Refusal} → Unsound fourth a r → carriedBy r < 2 ^ 32
-unfolding early-refusal
-unsound-light {fourth} {a} {r} (early e) =
-    let l : Light (early-refusal fourth a) = light-first (planning-checks fourth a) refl in
-    (rw e at l)
-unsound-light {fourth} {a} (illegal e l) =
-    let p = all-pass (planning-checks fourth a) e in
-    let n = in-range {most = most-scans} {x = a .N} (p .0) in
-    let q = in-range {most = most-settings} {x = a .Q} (p .1 .0) in
-    let w : length (a .rates) ≡ cells (a .N) (a .Q) = eqb-true _ _ (not-false _ (neither _ _ (p .1 .1 .1 .1 .0) .0)) in
-    omega (arith, l .inside, w, cells-small {N = a .N} {Q = a .Q} (n .1) (q .1))
+pub unsound-light : {further : Option Refusal} {a : Asked} {r : Refusal} → Gives Little further → Unsound further a r → carriedBy r < 2 ^ 32
+unsound-light {further} {a} {r} f (early e) =
+    given Little (early-gives Little further a (omega arith) (omega arith) (omega arith) f (omega arith) (omega arith)) e
+unsound-light {further} {a} f (illegal e l) =
+    let p = admitted {further = further} {a = a} e in
+    let n = in-range {most = most-scans} {x = a .N} (p .scans) in
+    let q = in-range {most = most-settings} {x = a .Q} (p .settings) in
+    let w = lengths-exact (a .N) (a .Q) (a .rates) (a .distortions) (p .lengths) in
+    omega (arith, l .inside, w .0, cells-small {N = a .N} {Q = a .Q} (n .1) (q .1))
 
 refusal-tellable : {reply : Reply} {n : ℕ} (r : Refusal) → reply ≡ refused r → carriedBy r < 2 ^ 32 → Tellable reply n
 refusal-tellable r e h = rw e (record { holds = λ z. absurd (never-zero r z); small = λ z. h })
 
-pub or-tellable : (o : Option Refusal) (v : List ℕ) (n : ℕ) → Light o → (o ≡ none → 8 * length v ≤ n) → Tellable (or-answer o v) n
+pub or-tellable : (o : Option Refusal) (v : List ℕ) (n : ℕ) → Gives Little o → (o ≡ none → 8 * length v ≤ n) → Tellable (or-answer o v) n
 or-tellable none v n l h = record { holds = λ e. h refl; small = λ ne. absurd (ne refl) }
 or-tellable (some r) v n l h = refusal-tellable r refl l
 
@@ -148,20 +114,20 @@ lent-some need answer room = of (ltb answer need) (ltb-false answer need)
 
 pub read-tellable : (file : List ℕ) (answer room : ℕ) → Tellable (read-of file (lent 88 answer room)) answer
 unfolding read-of
-read-tellable file answer room = or-tellable (read-refusal file (lent 88 answer room)) (values-of (fields-of file)) answer
+read-tellable file answer room = or-tellable (read-refusal file (lent 88 answer room)) (field-values (fields-of file)) answer
     (read-light file (lent 88 answer room)) (λ e.
     let p = passed file (lent 88 answer room) e in
     let n = in-range {most = most-scans} {x = fields-of file .scans} (neither _ _ (p .rules .scans) .0) in
     lent-some 88 answer room (omega (arith, p .enough, n .0)))
 
 -- a planning call whose answer needs so many bytes
-pub promise-tellable : {fourth : Bool} {a : Asked} {within : List ℕ → Type 0} {Plan : List ℕ → List ℕ → Type 0}
-    {plan scratch p s : List ℕ} {reply : Reply} (need answer room : ℕ) → Promise fourth a within Plan plan scratch reply p s →
+pub promise-tellable : {further : Option Refusal} {a : Asked} {within : List ℕ → Type 0} {Plan : List ℕ → List ℕ → Type 0}
+    {plan scratch p s : List ℕ} {reply : Reply} (need answer room : ℕ) → Gives Little further → Promise further a within Plan plan scratch reply p s →
     a .plan ≡ lent need answer room → (reply .number ≡ 0 → 8 * length (reply .values) ≤ need) → Tellable reply answer
-promise-tellable need answer room (unsound {r = r} u e f g) m h = refusal-tellable r e (unsound-light u)
-promise-tellable need answer room (no-sequence o n e f g) m h = refusal-tellable refusal.NoSequence e (omega arith)
-promise-tellable need answer room (none-within o n e f g) m h = refusal-tellable refusal.NoneWithin e (omega arith)
-promise-tellable {reply = reply} need answer room (planned o t v q e f g) m h =
+promise-tellable need answer room little (unsound {r = r} u e f g) m h = refusal-tellable r e (unsound-light little u)
+promise-tellable need answer room little (no-sequence o n e f g) m h = refusal-tellable refusal.NoSequence e (omega arith)
+promise-tellable need answer room little (none-within o n e f g) m h = refusal-tellable refusal.NoneWithin e (omega arith)
+promise-tellable {reply = reply} need answer room little (planned o t v q e f g) m h =
     let zero-number : reply .number ≡ 0 = ap (λ (x : Reply). x .number) e in
     let some-room : 1 ≤ lent need answer room = omega (arith, sound-plan o, sound-fit o .some-scans, m) in
     record {
@@ -185,7 +151,7 @@ average-needs (average-answer.Refused r) e = absurd (never-zero r e)
 pub room-carries : (C N Q : ℕ) (r : Refusal) → room-of C N Q ≡ refused r → carriedBy r < 2 ^ 32
 unfolding room-of
 room-carries C N Q r e = tellable-refusal r e
-    (or-tellable (first-refusal (room-checks C N Q)) (cells N Q ∷ 4 * C * cells N Q ∷ N * Q ∷ []) 24 (room-light C N Q) (λ z. omega arith))
+    (or-tellable (first-refusal (room-checks C N Q)) (cells N Q ∷ 4 * C * cells N Q ∷ scratch-need N Q ∷ []) 24 (room-light C N Q) (λ z. omega arith))
 
 pub write-carries : (f : Fields) (settings : List ℕ) (room : ℕ) (r : Refusal) → write-of f settings room ≡ refused r → carriedBy r < 2 ^ 32
 unfolding write-of

@@ -1,6 +1,5 @@
 -- A call over the front of a lent buffer is a call over the buffer. Assumes nothing.
 use mathlib.Core.Path.{_≡_, refl, sym, ap, _∙_}
-use mathlib.Core.Bool.{Bool}
 use mathlib.Core.Option.{Option, none, some}
 use mathlib.Core.List.{List, _++_, append-assoc}
 use Prim.Native.Nat.{ℕ, _≤_}
@@ -12,7 +11,7 @@ use Rattle.planfile.specs.Reading.{entries, fields-of, read-refusal, settings-a
 use Rattle.blocks.specs.File.{entry-at}
 use Rattle.planfile.proofs.Accepted.{passed}
 use Rattle.promise.specs.Promise.{Promise, unsound, no-sequence, none-within, planned}
-use Rattle.checks.specs.Checked.{asking}
+use Rattle.checks.specs.Planning.{asking}
 use Rattle.checks.proofs.PlanningLaws.{sound-plan}
 
 -- a buffer whose front stays the same stays the same
@@ -27,14 +26,14 @@ handed-front room n t l h e =
     ∙ append-assoc t (drop n (take room l)) (drop room l)
     ∙ ap (λ (x : List ℕ). t ++ x) (sym (drop-append-le n (take room l) (drop room l) h) ∙ ap (drop n) (take-append-drop room l))
 
-pub promise-whole : {fourth : Bool} {N Q law S : ℕ} {R D : List ℕ} {within : List ℕ → Type 0} {Plan : List ℕ → List ℕ → Type 0}
+pub promise-whole : {further : Option Refusal} {N Q law S : ℕ} {R D : List ℕ} {within : List ℕ → Type 0} {Plan : List ℕ → List ℕ → Type 0}
     {scratch p s : List ℕ} {reply : Reply} (room m : ℕ) (plan : List ℕ) →
-    Promise fourth (asking N Q law R D (length (take room plan)) S) within Plan (take room plan) scratch reply p s →
-    length (take room plan) ≡ m → Promise fourth (asking N Q law R D m S) within Plan plan scratch reply (p ++ drop room plan) s
-promise-whole {fourth} {N} {Q} {law} {S} {R} {D} {within} {Plan} {scratch} {p} {s} {reply} room m plan promise e = rw e at (whole promise)
+    Promise further (asking N Q law R D (length (take room plan)) S) within Plan (take room plan) scratch reply p s →
+    length (take room plan) ≡ m → Promise further (asking N Q law R D m S) within Plan plan scratch reply (p ++ drop room plan) s
+promise-whole {further} {N} {Q} {law} {S} {R} {D} {within} {Plan} {scratch} {p} {s} {reply} room m plan promise e = rw e at (whole promise)
   where
-    whole : Promise fourth (asking N Q law R D (length (take room plan)) S) within Plan (take room plan) scratch reply p s →
-        Promise fourth (asking N Q law R D (length (take room plan)) S) within Plan plan scratch reply (p ++ drop room plan) s
+    whole : Promise further (asking N Q law R D (length (take room plan)) S) within Plan (take room plan) scratch reply p s →
+        Promise further (asking N Q law R D (length (take room plan)) S) within Plan plan scratch reply (p ++ drop room plan) s
     whole (unsound {r = r} u e f g) = unsound {r = r} u e (same-front room plan f) g
     whole (no-sequence o n e f g) = no-sequence o n e (same-front room plan f) g
     whole (none-within o n e f g) = none-within o n e (same-front room plan f) g

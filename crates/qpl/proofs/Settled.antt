@@ -13,18 +13,19 @@ use Rattle.tables.specs.declared.refusal.Refusal.{Refusal}
 use Rattle.tables.specs.declared.refusal.Refusal.the-variants as refusal
 use Rattle.tables.specs.Limits.{most-scans}
 use Rattle.tables.specs.Refusals.{Reply, refused, numberOf, carriedBy}
-use Rattle.checks.specs.Planning.{Asked, early-refusal, scans-out, settings-out, lengths-out, buffers-short}
-use Rattle.checks.specs.Checks.{or-later, when, or-else, found}
+use Rattle.checks.proofs.CheckLaws.{all-pass}
+use Rattle.checks.specs.Checks.{first-refusal, when, found, or-else}
+use mathlib.Core.List.{[], _∷_, _++_}
+use Rattle.checks.specs.Planning.{range-checks, Asked, early-refusal, scans-out, settings-out, lengths-out, buffers-short, asking}
 use Rattle.tables.specs.Law.{law-out}
 use Rattle.checks.proofs.RangeLaws.{in-range}
 use Rattle.laws.proofs.Tests.{never, neither}
 use Rattle.tables.proofs.RefusalLaws.{never-zero, refusal-of, refusal-back}
 use Rattle.blocks.specs.Blocks.{length-out, bad-block}
-use Rattle.planfile.specs.Reading.{broken-field, fields-of, marks-of, read-refusal}
+use Rattle.planfile.specs.Reading.{broken-field, fields-of, faults-of, read-refusal}
 use Rattle.rules.proofs.FieldLaws.{rules-hold}
-use Rattle.checks.specs.Checked.{asking}
 use Rattle.promise.specs.Promise.{CeilingPromise, MultiplierPromise, MinmaxPromise, AveragePromise, plan-reply, minmax-reply, average-reply}
-use Rattle.promise.proofs.Settled.{ceiling-settled, multiplier-settled, minmax-settled, average-settled}
+use Rattle.promise.proofs.Unique.{ceiling-settled, multiplier-settled, minmax-settled, average-settled}
 use Rattle.telling.specs.Told.{word-of, Told, lent}
 use Rattle.qpl.specs.Surface.{Tells}
 use Rattle.telling.proofs.AnswerLaws.{number-small, word-refused}
@@ -85,59 +86,45 @@ after-stage (some r) x y h = refl
 -- The reader then gives the first of 11, 12, 13, and else 6: 14 is never reached, and nothing is read.
 pub short-answer-read : (file : List ℕ) (answer room : ℕ) → ltb answer 88 ≡ true →
     read-refusal file (lent 88 answer room)
-    ≡ or-else (when (length-out (length file)) refusal.FileLength)
-    (or-else (found refusal.Block (bad-block file))
-    (or-else (broken-field file) (some refusal.Buffer)))
+    ≡ first-refusal (when (length-out (length file)) refusal.FileLength ∷ found refusal.Block (bad-block file) ∷ broken-field file ∷ some refusal.Buffer ∷ [])
 unfolding read-refusal broken-field
 short-answer-read file answer room short = rw short
     (ap (or-else (when (length-out (length file)) refusal.FileLength))
     (ap (or-else (found refusal.Block (bad-block file)))
     (after-stage (broken-field file) _ (some refusal.Buffer) (λ e.
-    let n = in-range {most = most-scans} {x = fields-of file .scans} (neither _ _ (rules-hold (marks-of file) (fields-of file) e .scans) .0) in
+    let n = in-range {most = most-scans} {x = fields-of file .scans} (neither _ _ (rules-hold (faults-of file) (fields-of file) e .scans) .0) in
     rw (lt-ltb 0 (fields-of file .scans) (omega (arith, n .0))) refl))))
 
+-- the checks of a planning call whose answer buffer is too short: 1 to 5, and then 6
+abbrev pub short-checks : Option Refusal → (N Q law : ℕ) (rates distortions : List ℕ) → List (Option Refusal)
+short-checks further N Q law rates distortions =
+    range-checks most-scans N Q (law-out law) ++ (further ∷ when (lengths-out N Q rates distortions) refusal.Lengths ∷ some refusal.Buffer ∷ [])
+
 -- A planning call then gives the first of 1 to 5, and else 6.
-pub short-answer-plan : (fourth : Bool) (N Q law : ℕ) (rates distortions : List ℕ) (need answer room scratch : ℕ) → ltb answer need ≡ true →
-    early-refusal fourth (asking N Q law rates distortions (lent need answer room) scratch)
-    ≡ or-later (scans-out N) refusal.Scans
-    (or-later (settings-out Q) refusal.Settings
-    (or-later (law-out law) refusal.StepLaw
-    (or-later fourth refusal.Multiplier
-    (or-later (lengths-out N Q rates distortions) refusal.Lengths (some refusal.Buffer)))))
+pub short-answer-plan : (further : Option Refusal) (N Q law : ℕ) (rates distortions : List ℕ) (need answer room scratch : ℕ) → ltb answer need ≡ true →
+    early-refusal further (asking N Q law rates distortions (lent need answer room) scratch)
+    ≡ first-refusal (short-checks further N Q law rates distortions)
 unfolding early-refusal
-short-answer-plan fourth N Q law rates distortions need answer room scratch short = rw short (of (scans-out N) (in-range {most = most-scans} {x = N}))
+short-answer-plan further N Q law rates distortions need answer room scratch short = rw short (of (scans-out N) (in-range {most = most-scans} {x = N}))
   where
+    later : Bool → List (Option Refusal)
+    later b =
+        when (settings-out Q) refusal.Settings ∷ when (law-out law) refusal.StepLaw ∷ further ∷ when (lengths-out N Q rates distortions) refusal.Lengths
+        ∷ when b refusal.Buffer ∷ []
+
     -- no room is short of a scan
     of : (b : Bool) → (b ≡ false → (1 ≤ N) × (N ≤ most-scans)) →
-        or-later b refusal.Scans
-        (or-later (settings-out Q) refusal.Settings
-        (or-later (law-out law) refusal.StepLaw
-        (or-later fourth refusal.Multiplier
-        (or-later (lengths-out N Q rates distortions) refusal.Lengths (or-later (buffers-short N Q 0 scratch) refusal.Buffer none)))))
-        ≡ or-later b refusal.Scans
-        (or-later (settings-out Q) refusal.Settings
-        (or-later (law-out law) refusal.StepLaw
-        (or-later fourth refusal.Multiplier
-        (or-later (lengths-out N Q rates distortions) refusal.Lengths (some refusal.Buffer)))))
+        or-else (when b refusal.Scans) (first-refusal (later (buffers-short N Q 0 scratch))) ≡ or-else (when b refusal.Scans) (first-refusal (later true))
     of true h = refl
     of false h = rw (lt-ltb 0 N (omega (arith, h refl .0))) refl
 
 -- so it is refused
-pub short-answer-refused : (fourth : Bool) (N Q law : ℕ) (rates distortions : List ℕ) (need answer room scratch : ℕ) → ltb answer need ≡ true →
-    early-refusal fourth (asking N Q law rates distortions (lent need answer room) scratch) ≡ none → ⊥
-short-answer-refused fourth N Q law rates distortions need answer room scratch short e =
-    five (scans-out N) (settings-out Q) (law-out law) fourth (lengths-out N Q rates distortions)
-    (sym (short-answer-plan fourth N Q law rates distortions need answer room scratch short) ∙ e)
-  where
-    five : (b₁ b₂ b₃ b₄ b₅ : Bool) →
-        or-later b₁ refusal.Scans (or-later b₂ refusal.Settings (or-later b₃ refusal.StepLaw (or-later b₄ refusal.Multiplier
-        (or-later b₅ refusal.Lengths (some refusal.Buffer))))) ≡ none → ⊥
-    five true b₂ b₃ b₄ b₅ e = never (cc)
-    five false true b₃ b₄ b₅ e = never (cc)
-    five false false true b₄ b₅ e = never (cc)
-    five false false false true b₅ e = never (cc)
-    five false false false false true e = never (cc)
-    five false false false false false e = never (cc)
+pub short-answer-refused : (further : Option Refusal) (N Q law : ℕ) (rates distortions : List ℕ) (need answer room scratch : ℕ) → ltb answer need ≡ true →
+    early-refusal further (asking N Q law rates distortions (lent need answer room) scratch) ≡ none → ⊥
+short-answer-refused further N Q law rates distortions need answer room scratch short e =
+    let p = all-pass (short-checks further N Q law rates distortions) (sym (short-answer-plan further N Q law rates distortions need answer room scratch short) ∙ e) in
+    let z : some refusal.Buffer ≡ none = p .1 .1 .1 .1 .1 .0 in
+    never cc
 
 -- Equal words are of equal refusals.
 pub word-settles : (r r′ : Refusal) → word-of (refused r) ≡ word-of (refused r′) → r ≡ r′

@@ -23,7 +23,7 @@ use telling::tell_plan;
 use telling::word;
 ghost use mathlib.Core.Path.{_≡_};
 ghost use lib.ListN.{length};
-ghost use Rattle.checks.specs.Checked.{asking};
+ghost use Rattle.checks.specs.Planning.{asking};
 ghost use Rattle.promise.specs.Promise.{CeilingPromise, MultiplierPromise, MinmaxPromise, AveragePromise, «plan-reply», «minmax-reply», «average-reply»};
 ghost use Rattle.planfile.specs.Reading.{«read-of», «read-refusal», «settings-after»};
 ghost use Rattle.planfile.specs.Writing.{«write-of», «write-refusal», «file-after»};

@@ -1,6 +1,11 @@
 // The room question.
 use checks::range::outside;
-use tables::cells;
+use checks::stage::Stage;
+use checks::stage::then;
+use checks::stage::unless;
+use checks::stage::why;
+use tables::cells::count;
+use tables::cells::scratch_need;
 use tables::limits::MOST_CHANNELS;
 use tables::limits::MOST_SCANS;
 use tables::limits::MOST_SETTINGS;
@@ -36,19 +41,16 @@ fn table_bytes(channels: u64, cells: u64) -> u64
 pub fn room_for(channels: u64, scans: u64, settings: u64) -> RoomAnswer
     ensures { λ r. ⌜ room-reply r ≡ room-of channels scans settings ⌝ }
 {
-    if outside(MOST_CHANNELS, channels) {
-        return RoomAnswer::Refused(Refusal::Channels);
-    }
-    if outside(MOST_SCANS, scans) {
-        return RoomAnswer::Refused(Refusal::Scans);
-    }
-    if outside(MOST_SETTINGS, settings) {
-        return RoomAnswer::Refused(Refusal::Settings);
-    }
-    let cells = cells::count(scans, settings);
+    let first = unless(outside(MOST_CHANNELS, channels), Refusal::Channels);
+    let second = then(first, outside(MOST_SCANS, scans), Refusal::Scans);
+    let third = then(second, outside(MOST_SETTINGS, settings), Refusal::Settings);
+    let Stage::Passed = third else {
+        return RoomAnswer::Refused(why(third));
+    };
+    let cells = count(scans, settings);
     RoomAnswer::Given(Room {
         cells,
         bytes: table_bytes(channels, cells),
-        scratch: scans * settings,
+        scratch: scratch_need(scans, settings),
     })
 }

@@ -2,22 +2,26 @@
 use mathlib.Core.Path.{_≡_, refl}
 use mathlib.Core.Bool.{Bool, true, false, not, _||_, _&&_, cond}
 use mathlib.Core.Option.{none}
-use Prim.Native.Nat.{ℕ, _≤_}
+use Prim.Native.Nat.{ℕ, _≤_, _<_}
 use native.Mathlib.Omega.{arith}
 use lib.Dec.{eqb, ltb}
 use lib.ListN.{length}
 use borrow.Author.Tests.{eqb-true, ltb-false, not-false}
 use Rattle.criteria.specs.Fraction.{gcd}
-use Rattle.tables.specs.Limits.{most-term, most-total, most-cell}
+use Rattle.tables.specs.Limits.{most-scans, most-settings, most-term, most-total, most-cell}
 use Rattle.checks.specs.Checks.{first-refusal, zero-or-over}
 use Rattle.checks.specs.Planning.{scans-out, settings-out}
 use Rattle.tables.specs.Law.{law-out}
+use Rattle.tables.proofs.LawLaws.{known-small}
+use Rattle.checks.proofs.GiveLaws.{Gives, gives-first, gives-when}
+use Rattle.tables.specs.declared.refusal.Refusal.{Refusal}
+use Rattle.tables.specs.declared.refusal.Refusal.the-variants as refusal
 use Rattle.checks.proofs.RangeLaws.{in-range}
 use Rattle.laws.proofs.Tests.{neither}
 use Rattle.rules.specs.declared.Fields.{Fields}
-use Rattle.rules.specs.declared.Marks.{Marks}
-use Rattle.rules.specs.Rules.{header-rules, kind-out, n-broken, d-broken, rate-broken, peak-broken, floor-broken}
-use Rattle.checks.proofs.CheckLaws.{all-pass}
+use Rattle.rules.specs.declared.Faults.{Faults}
+use Rattle.rules.specs.Rules.{rule, header-rules, kind-out, n-broken, d-broken, rate-broken, peak-broken, floor-broken}
+use Rattle.checks.proofs.CheckLaws.{all-pass, none-when}
 
 -- a number that is 0 or 1
 zero-or-one : (x : ℕ) → not (eqb x 0 || eqb x 1) ≡ false → x ≤ 1
@@ -54,8 +58,8 @@ floor-small kind floor distortion e = by-kind (eqb kind 0) e
     by-kind true e = ltb-false distortion floor e
     by-kind false e = omega (arith, eqb-true floor 0 (not-false _ e))
 
--- every rule of the header is rules-hold
-pub record RulesHold (m : Marks) (f : Fields) : Type 0 where
+-- every rule of the header is kept
+pub record RulesHold (m : Faults) (f : Fields) : Type 0 where
   pub letters : m .letters ≡ false
   pub scans : (scans-out (f .scans) || m .length) ≡ false
   pub settings : settings-out (f .settings) ≡ false
@@ -70,37 +74,37 @@ pub record RulesHold (m : Marks) (f : Fields) : Type 0 where
   pub floor : floor-broken (f .kind) (f .floor .0) (f .distortion .0) ≡ false
   pub run-48 : m .run_48 ≡ false
 
--- where the header rules give no refusal, each is rules-hold
-pub rules-hold : (m : Marks) (f : Fields) → first-refusal (header-rules m f) ≡ none → RulesHold m f
+-- where the header rules give no refusal, each is kept
+pub rules-hold : (m : Faults) (f : Fields) → first-refusal (header-rules m f) ≡ none → RulesHold m f
 rules-hold m f e =
     let p = all-pass (header-rules m f) e in
     let q = p .1 .1 .1 .1 .1 .1 in
     record {
-      letters = p .0;
-      scans = p .1 .0;
-      settings = p .1 .1 .0;
-      law = p .1 .1 .1 .0;
-      kind = p .1 .1 .1 .1 .0;
-      run-13 = p .1 .1 .1 .1 .1 .0;
-      n = q .0;
-      d = q .1 .0;
-      rate = q .1 .1 .0;
-      distortion = q .1 .1 .1 .0;
-      peak = q .1 .1 .1 .1 .0;
-      floor = q .1 .1 .1 .1 .1 .0;
-      run-48 = q .1 .1 .1 .1 .1 .1 .0;
+      letters = none-when _ _ (p .0);
+      scans = none-when _ _ (p .1 .0);
+      settings = none-when _ _ (p .1 .1 .0);
+      law = none-when _ _ (p .1 .1 .1 .0);
+      kind = none-when _ _ (p .1 .1 .1 .1 .0);
+      run-13 = none-when _ _ (p .1 .1 .1 .1 .1 .0);
+      n = none-when _ _ (q .0);
+      d = none-when _ _ (q .1 .0);
+      rate = none-when _ _ (q .1 .1 .0);
+      distortion = none-when _ _ (q .1 .1 .1 .0);
+      peak = none-when _ _ (q .1 .1 .1 .1 .0);
+      floor = none-when _ _ (q .1 .1 .1 .1 .1 .0);
+      run-48 = none-when _ _ (q .1 .1 .1 .1 .1 .1 .0);
     }
 
--- and where each is rules-hold, they give none
-pub rules-pass : (m : Marks) (f : Fields) → RulesHold m f → first-refusal (header-rules m f) ≡ none
+-- and where each is kept, they give none
+pub rules-pass : (m : Faults) (f : Fields) → RulesHold m f → first-refusal (header-rules m f) ≡ none
 rules-pass m f k =
     rw (k .letters, k .scans, k .settings, k .law, k .kind, k .run-13, k .n, k .d, k .rate, k .distortion, k .peak, k .floor, k .run-48)
 
 -- the limits of the fields
 pub record Limited (f : Fields) : Type 0 where
-  pub scans : f .scans ≤ 1024
-  pub settings : f .settings ≤ 16
-  pub law : f .law ≤ 1
+  pub scans : f .scans ≤ most-scans
+  pub settings : f .settings ≤ most-settings
+  pub law : f .law < 256
   pub kind : f .kind ≤ 1
   pub n : f .n ≤ most-term
   pub d : f .d ≤ most-term
@@ -110,13 +114,13 @@ pub record Limited (f : Fields) : Type 0 where
   pub floor : f .floor .0 ≤ most-total
 
 -- fields that keep their rules keep within the limits
-pub limited : (m : Marks) (f : Fields) → RulesHold m f → Limited f
+pub limited : (m : Faults) (f : Fields) → RulesHold m f → Limited f
 limited m f k =
     let total : f .distortion .0 ≤ most-total = ltb-false most-total (f .distortion .0) (k .distortion) in
     record {
       scans = in-range (neither (scans-out (f .scans)) (m .length) (k .scans) .0) .1;
       settings = in-range (k .settings) .1;
-      law = zero-or-one (f .law) (k .law);
+      law = known-small (f .law) (k .law);
       kind = zero-or-one (f .kind) (k .kind);
       n = n-small (f .kind) (f .n) (f .d) (k .n);
       d = d-small (f .kind) (f .d) (k .d);
@@ -125,3 +129,51 @@ limited m f k =
       peak = ltb-false most-cell (f .peak) (neither _ _ (k .peak) .0);
       floor = omega (arith, floor-small (f .kind) (f .floor .0) (f .distortion .0) (k .floor), total);
     }
+
+-- what holds of the refusals of the header, whose fields start at byte 48 or before, holds of the first that is given
+pub rules-give : (P : Refusal → Type 0) (m : Faults) (f : Fields) → ((byte : ℕ) → byte ≤ 48 → P (refusal.Header byte)) →
+    Gives P (first-refusal (header-rules m f))
+rules-give P m f h =
+    gives-first P (header-rules m f) (
+      at (m .letters) 4 (omega arith),
+      (
+        at (scans-out (f .scans) || m .length) 8 (omega arith),
+        (
+          at (settings-out (f .settings)) 10 (omega arith),
+          (
+            at (law-out (f .law)) 11 (omega arith),
+            (
+              at (kind-out (f .kind)) 12 (omega arith),
+              (
+                at (m .run_13) 13 (omega arith),
+                (
+                  at (n-broken (f .kind) (f .n) (f .d)) 24 (omega arith),
+                  (
+                    at (d-broken (f .kind) (f .d)) 28 (omega arith),
+                    (
+                      at (rate-broken (f .rate .0) (f .budget)) 32 (omega arith),
+                      (
+                        at (ltb most-total (f .distortion .0)) 36 (omega arith),
+                        (
+                          at (peak-broken (f .peak) (f .distortion .0)) 40 (omega arith),
+                          (
+                            at (floor-broken (f .kind) (f .floor .0) (f .distortion .0)) 44 (omega arith),
+                            (
+                              at (m .run_48) 48 (omega arith),
+                              tt,
+                            ),
+                          ),
+                        ),
+                      ),
+                    ),
+                  ),
+                ),
+              ),
+            ),
+          ),
+        ),
+      ),
+    )
+  where
+    at : (b : Bool) (byte : ℕ) → byte ≤ 48 → Gives P (rule byte b)
+    at b byte l = gives-when P b (refusal.Header byte) (h byte l)

@@ -1,16 +1,18 @@
 -- Document 01, "Plan file": the rules, each with the byte that it is charged to. Assumes nothing.
 use mathlib.Core.Bool.{Bool, not, _||_, _&&_, cond}
+use mathlib.Core.Option.{Option}
 use mathlib.Core.List.{List, [], _∷_}
 use Prim.Native.Nat.{ℕ}
 use lib.Dec.{eqb, ltb}
 use Rattle.criteria.specs.Fraction.{gcd}
+use Rattle.tables.specs.declared.refusal.Refusal.{Refusal}
 use Rattle.tables.specs.declared.refusal.Refusal.the-variants as refusal
 use Rattle.tables.specs.Limits.{most-term, most-total, most-cell}
-use Rattle.checks.specs.Checks.{Check, zero-or-over}
+use Rattle.checks.specs.Checks.{when, zero-or-over}
 use Rattle.checks.specs.Planning.{scans-out, settings-out}
 use Rattle.tables.specs.Law.{law-out}
 use Rattle.rules.specs.declared.Fields.{Fields}
-use Rattle.rules.specs.declared.Marks.{Marks}
+use Rattle.rules.specs.declared.Faults.{Faults}
 
 -- "kind, 0 average, 1 minmax"
 abbrev pub kind-out : ℕ → Bool
@@ -36,11 +38,11 @@ peak-broken peak distortion = ltb most-cell peak || ltb distortion peak
 abbrev pub floor-broken : (kind floor distortion : ℕ) → Bool
 floor-broken kind floor distortion = cond (eqb kind 0) (ltb distortion floor) (not (eqb floor 0))
 
-abbrev pub rule : ℕ → Bool → Check
-rule byte broken = record { fails = broken; gives = refusal.Header byte }
+abbrev pub rule : ℕ → Bool → Option Refusal
+rule byte broken = when broken (refusal.Header byte)
 
 -- refusal 13, "a header field breaks its rule", with the "lowest byte of the first such field": the fields in byte order
-abbrev pub header-rules : Marks → Fields → List Check
+abbrev pub header-rules : Faults → Fields → List (Option Refusal)
 header-rules m f =
     rule 4 (m .letters)
     ∷ rule 8 (scans-out (f .scans) || m .length)

@@ -1,4 +1,5 @@
 // What a plan file says of its plan beside the settings, and the rules of these fields, each charged to its byte.
+use bytes::cast::cell_to_number;
 use checks::range::outside;
 use checks::stage::Stage;
 use checks::stage::then;
@@ -6,6 +7,8 @@ use checks::stage::unless;
 use keys::cost::Dist;
 use keys::cost::Rate;
 use tables::common::common;
+use tables::law::unknown;
+use tables::limits::MOST_CELL;
 use tables::limits::MOST_SCANS;
 use tables::limits::MOST_SETTINGS;
 use tables::limits::MOST_TERM;
@@ -14,7 +17,6 @@ use tables::refusal::Refusal;
 ghost use mathlib.Core.Path.{_≡_};
 ghost use mathlib.Core.Bool.{_||_};
 ghost use Rattle.checks.specs.Checks.{«first-refusal»};
-ghost use Rattle.tables.specs.Law.{«law-out»};
 ghost use Rattle.rules.specs.Rules.{«header-rules», «kind-out», «n-broken», «d-broken», «rate-broken», «peak-broken», «floor-broken»};
 ghost use Rattle.checks.specs.Stages.{ended};
 
@@ -33,24 +35,22 @@ pub struct Fields {
     pub floor: Dist,
 }
 
-// What block 0 shows beside its fields: other letters, another length than N's, a run of zeros that is none.
-pub struct Marks {
+// What is wrong in block 0 beside its fields: other letters, another length than N's, a run of zeros that is none.
+pub struct Faults {
     pub letters: bool,
     pub length: bool,
     pub run_13: bool,
     pub run_48: bool,
 }
 
-const MOST_PEAK: u64 = 1048575;
-
-// Neither 0 nor 1: no law, and no kind.
-fn past_one(x: u64) -> bool
-    ensures { λ r. ⌜ (r ≡ law-out x) × (r ≡ kind-out x) ⌝ }
+// Neither an average nor a minmax plan.
+fn no_kind(kind: u64) -> bool
+    ensures { λ r. ⌜ r ≡ kind-out kind ⌝ }
 {
-    if x == 0 {
+    if kind == 0 {
         return false;
     }
-    x != 1
+    kind != 1
 }
 
 fn either_of(a: bool, b: bool) -> bool
@@ -98,7 +98,7 @@ fn rate_wrong(rate: u64, budget: u64) -> bool
 fn peak_wrong(peak: u64, distortion: u64) -> bool
     ensures { λ r. ⌜ r ≡ peak-broken peak distortion ⌝ }
 {
-    if MOST_PEAK < peak {
+    if cell_to_number(MOST_CELL) < peak {
         return true;
     }
     distortion < peak
@@ -114,7 +114,7 @@ fn floor_wrong(kind: u64, floor: u64, distortion: u64) -> bool
 }
 
 // The first field in byte order that breaks its rule.
-pub fn rules(m: Marks, f: Fields) -> Stage
+pub fn rules(m: Faults, f: Fields) -> Stage
     ensures { λ r. ⌜ ended r ≡ first-refusal (header-rules m f) ⌝ }
 {
     let letters = unless(m.letters, Refusal::Header(4));
@@ -128,8 +128,8 @@ pub fn rules(m: Marks, f: Fields) -> Stage
         outside(MOST_SETTINGS, f.settings),
         Refusal::Header(10),
     );
-    let law = then(settings, past_one(f.law), Refusal::Header(11));
-    let kind = then(law, past_one(f.kind), Refusal::Header(12));
+    let law = then(settings, unknown(f.law), Refusal::Header(11));
+    let kind = then(law, no_kind(f.kind), Refusal::Header(12));
     let run_13 = then(kind, m.run_13, Refusal::Header(13));
     let n = then(run_13, n_wrong(f.kind, f.n, f.d), Refusal::Header(24));
     let d = then(n, d_wrong(f.kind, f.d), Refusal::Header(28));

@@ -10,15 +10,16 @@ use borrow.Author.Tests.{eqb-true, eqb-false}
 use Rattle.criteria.specs.Choice.{Problem, Multiplier, cost}
 use Rattle.criteria.specs.Passes.{Slope, last}
 use Rattle.criteria.proofs.Bound.{cheapest}
-use Rattle.criteria.proofs.Passes.{planned, Ended, slopes-end, pareto, climbs, descends, origin-allowed}
+use Rattle.criteria.specs.Found.{planned, Ended}
+use Rattle.criteria.proofs.Passes.{slopes-end, pareto, climbs, descends, origin-allowed}
 use Rattle.tables.specs.Limits.{most-term, most-total}
 use Rattle.walk.specs.declared.Totals.{Totals}
-use Rattle.trellis.specs.Chosen.{chosen}
+use Rattle.trellis.specs.Choices.{chosen}
 use Rattle.walk.specs.Walked.{TotalsOf}
 use Rattle.search.specs.declared.slopes.Bracket.{Bracket}
-use Rattle.seek.specs.Passes.{MultiplierPass}
+use Rattle.seek.specs.Sought.{MultiplierPass}
 use Rattle.search.specs.Search.{Bracketed, SlopeOf, Narrowed}
-use Rattle.tables.proofs.Totals.{cost-small}
+use Rattle.tables.proofs.Bounds.{cost-small}
 
 -- the totals of a sequence at a multiplier
 pub totals-cost : {P : Problem} {s : List ℕ} {t : Totals} (n d : ℕ) → TotalsOf P s t → d * t .distortion .0 + n * t .rate .0 ≡ cost P n d s

@@ -2,22 +2,23 @@
 use mathlib.Core.Path.{_≡_}
 use mathlib.Core.Bool.{Bool, true, false}
 use mathlib.Core.List.{List}
-use Prim.Native.Nat.{ℕ, _+_, _*_, _≤_, _<_}
+use Prim.Native.Nat.{ℕ, _+_, _≤_, _<_}
+use Rattle.tables.specs.Tables.{scratch-need}
 use Rattle.criteria.specs.Choice.{Problem, UnderCeiling, Multiplier}
-use Rattle.criteria.proofs.Passes.{Origin, Ended}
-use Rattle.trellis.specs.Chosen.{chosen}
+use Rattle.criteria.specs.Found.{Origin, Ended}
+use Rattle.trellis.specs.Choices.{chosen}
 use Rattle.walk.specs.Walked.{TotalsOf}
 use Rattle.walk.specs.declared.Totals.{Totals}
 use mathlib.Core.Logic.{_⊎_}
 use Prim.Native.Nat.{ℕ, _≤_, _<_}
 use Rattle.search.specs.declared.slopes.Bracket.{Bracket}
-use Rattle.seek.specs.Passes.{Framed}
+use Rattle.seek.specs.Sought.{Framed}
 
 -- whether the least-rate plan under X fits B
-pub record Fits (P : Problem) (N Q X B : ℕ) (before after : List ℕ) (fits : Bool) : Type 0 where
+pub record ThriftyFits (P : Problem) (N Q X B : ℕ) (before after : List ℕ) (fits : Bool) : Type 0 where
   pub yes-fits : fits ≡ true → (t : List ℕ) × UnderCeiling P X t × (P .rate t ≤ B)
   pub no-fits : fits ≡ false → (t : List ℕ) → UnderCeiling P X t → B < P .rate t
-  pub framed : Framed (N * Q) before after
+  pub framed : Framed (scratch-need N Q) before after
 
 -- something under X fits B
 abbrev pub SomeFits : Problem → ℕ → ℕ → Type 0
@@ -27,7 +28,7 @@ SomeFits P B X = (t : List ℕ) × UnderCeiling P X t × (P .rate t ≤ B)
 pub record LeastCeiling (P : Problem) (N Q B X : ℕ) (before after : List ℕ) : Type 0 where
   pub some-fits : SomeFits P B X
   pub least : (Y : ℕ) (t : List ℕ) → UnderCeiling P Y t → P .rate t ≤ B → X ≤ Y
-  pub framed : Framed (N * Q) before after
+  pub framed : Framed (scratch-need N Q) before after
 
 -- lo is a plan that fits B and hi one that does not, each by its totals
 pub record Bracketed (P : Problem) (B : ℕ) (lo hi : Totals) : Type 0 where
@@ -53,7 +54,7 @@ pub record SlopeEnd (P : Problem) (N Q B n d : ℕ) (before after : List ℕ) : 
   pub ended : Ended P B n d (chosen Q N after)
   pub small-n : n ≤ 1073741823
   pub small-d : d ≤ 1073741823
-  pub framed : Framed (N * Q) before after
+  pub framed : Framed (scratch-need N Q) before after
 
 -- the plan takes the place of the one on its side of the budget
 abbrev pub Narrowed : Bracket → Totals → ℕ → Bracket → Type 0

@@ -6,7 +6,7 @@ ghost use Prim.Native.Nat.{_<_};
 ghost use lib.ListN.{length};
 ghost use Rattle.tables.specs.Tables.{table, planning};
 ghost use Rattle.checks.specs.Fit.{Fit};
-ghost use Rattle.search.specs.Search.{Fits, SomeFits, LeastCeiling};
+ghost use Rattle.search.specs.Search.{ThriftyFits, SomeFits, LeastCeiling};
 
 // Does the least-rate plan under the ceiling fit the budget?
 fn some_fit(
@@ -19,8 +19,8 @@ fn some_fit(
     distortions: &[u32],
     scratch: &mut [u8],
 ) -> bool
-    requires { ⌜ Fit scans settings law (now rates) (now distortions) (length (now scratch)) ⌝ }
-    ensures { λ r. ⌜ Fits (planning (table scans settings law (now (rates .entry)) (now (distortions .entry)))) scans settings ceiling budget (now (scratch .entry)) (now (scratch .exit)) r ⌝ }
+    requires { ⌜ Fit scans settings (now rates) (now distortions) (length (now scratch)) ⌝ }
+    ensures { λ r. ⌜ ThriftyFits (planning (table scans settings law (now (rates .entry)) (now (distortions .entry)))) scans settings ceiling budget (now (scratch .entry)) (now (scratch .exit)) r ⌝ }
 {
     if thrifty_pass(scans, settings, law, ceiling, rates, distortions, scratch) {
         let totals = total_up(scans, settings, law, rates, distortions, scratch);
@@ -40,7 +40,7 @@ pub fn least_ceiling(
     distortions: &[u32],
     scratch: &mut [u8],
 ) -> u32
-    requires { ⌜ Fit scans settings law (now rates) (now distortions) (length (now scratch)) ⌝ }
+    requires { ⌜ Fit scans settings (now rates) (now distortions) (length (now scratch)) ⌝ }
     requires { ⌜ SomeFits (planning (table scans settings law (now rates) (now distortions))) budget high ⌝ }
     ensures { λ r. ⌜ LeastCeiling (planning (table scans settings law (now (rates .entry)) (now (distortions .entry)))) scans settings budget r (now (scratch .entry)) (now (scratch .exit)) ⌝ }
 {

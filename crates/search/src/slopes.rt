@@ -63,7 +63,7 @@ pub fn slopes(
     distortions: &[u32],
     scratch: &mut [u8],
 ) -> Ratio
-    requires { ⌜ Fit scans settings law (now rates) (now distortions) (length (now scratch)) ⌝ }
+    requires { ⌜ Fit scans settings (now rates) (now distortions) (length (now scratch)) ⌝ }
     requires { ⌜ Bracketed (planning (table scans settings law (now rates) (now distortions))) budget (start .lo) (start .hi) ⌝ }
     ensures { λ r. ⌜ SlopeEnd (planning (table scans settings law (now (rates .entry)) (now (distortions .entry)))) scans settings budget (r .n) (r .d) (now (scratch .entry)) (now (scratch .exit)) ⌝ }
 {

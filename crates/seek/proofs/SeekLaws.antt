@@ -9,22 +9,22 @@ use lib.ListN.{length, drop, replicate, length-drop}
 use lib.Seq.{ext-getD, getD-drop}
 use Rattle.criteria.specs.Choice.{Problem, UnderCeiling, InBudget, Ceiling, NoneWithin}
 use Rattle.criteria.specs.Passes.{Thriftiest}
-use Rattle.tables.specs.Limits.{most-cell, most-total}
+use Rattle.tables.specs.Limits.{most-cell, most-total, most-scans, most-settings}
 use Rattle.tables.specs.Series.{Series, Kept, largest}
-use Rattle.tables.specs.Tables.{Table, table, series, planning}
-use Rattle.tables.proofs.Totals.{Small, table-small, rate-small, distortion-small, peak-small}
+use Rattle.tables.specs.Tables.{scratch-need, Table, table, series, planning}
+use Rattle.tables.proofs.Bounds.{Bounded, table-small, rate-small, distortion-small, peak-small}
 use Rattle.criteria.proofs.Agree.{best-same}
 use Rattle.criteria.proofs.Order.{then-le}
 use Rattle.keys.specs.OneKey.{Least, Weighed, rate-first}
 use Rattle.keys.proofs.OneKeyLaws.{multiplier-by-key, ceiling-by-key, rates-first}
 use Rattle.least.specs.declared.Rule.{Rule}
-use Rattle.trellis.specs.Chosen.{chosen}
+use Rattle.trellis.specs.Choices.{chosen}
 use Rattle.walk.specs.Walked.{TotalsOf}
 use Rattle.walk.specs.declared.Totals.{Totals}
 use Rattle.checks.specs.Fit.{Fit}
-use Rattle.trellis.specs.Pass.{under, asked, Passed}
+use Rattle.trellis.specs.Pass.{under, PassOf, pass-problem}
 use Rattle.checks.proofs.FitLaws.{fit-legal}
-use Rattle.seek.specs.Passes.{no-ceiling, Framed, ThriftyPass, MultiplierPass, ThriftyTotals}
+use Rattle.seek.specs.Sought.{no-ceiling, Framed, ThriftyPass, MultiplierPass, ThriftyTotals}
 
 -- a sequence of steps under a ceiling has its peak under it, and the other way round
 under-peak : (S : Series) (X i p : ℕ) (s : List ℕ) → Kept (under X S) i p s → Kept S i p s × (largest (S .height) i p s ≤ X)
@@ -39,15 +39,15 @@ peak-under S X i p (q ∷ s) k h = (k .0, (k .1, omega arith), peak-under S X (s
 least-same : {C C′ : List ℕ → Type 0} {k : List ℕ → ℕ} {s : List ℕ} → ((t : List ℕ) → C t → C′ t) → ((t : List ℕ) → C′ t → C t) → Least C k s → Least C′ k s
 least-same {s = s} to from l = record { one = to s (l .one); ahead = λ t c. l .ahead t (from t c) }
 
-module _ {N Q law : ℕ} {rates distortions : List ℕ} {room : ℕ} (fit : Fit N Q law rates distortions room) where
+module _ {N Q : ℕ} (law : ℕ) {rates distortions : List ℕ} {room : ℕ} (fit : Fit N Q rates distortions room) where
   abbrev T : Table
   T = table N Q law rates distortions
 
   abbrev P : Problem
   P = planning T
 
-  small : Small (series T)
-  small = table-small T (fit-legal fit)
+  small : Bounded (series T)
+  small = table-small T (fit-legal {t = T} fit)
 
   pub sums-small : (t : List ℕ) → P .allowed t → (P .distortion t ≤ most-total) × (P .rate t ≤ most-total)
   sums-small t a = (distortion-small (series T) small t a, rate-small (series T) small t a)
@@ -55,31 +55,31 @@ module _ {N Q law : ℕ} {rates distortions : List ℕ} {room : ℕ} (fit : Fit 
   pub peak-fits : (t : List ℕ) → P .allowed t → P .peak t ≤ most-cell
   peak-fits t a = peak-small (series T) small t a
 
-  asked-under : (X : ℕ) (t : List ℕ) → asked N Q law rates distortions X .allowed t → UnderCeiling P X t
-  asked-under X t a = let r = under-peak (series T) X 0 0 t (a .1) in ((a .0, r .0), r .1)
+  pass-under-peak : (X : ℕ) (t : List ℕ) → pass-problem X T .allowed t → UnderCeiling P X t
+  pass-under-peak X t a = let r = under-peak (series T) X 0 0 t (a .1) in ((a .0, r .0), r .1)
 
-  under-asked : (X : ℕ) (t : List ℕ) → UnderCeiling P X t → asked N Q law rates distortions X .allowed t
-  under-asked X t w = (w .0 .0, peak-under (series T) X 0 0 t (w .0 .1) (w .1))
+  under-pass : (X : ℕ) (t : List ℕ) → UnderCeiling P X t → pass-problem X T .allowed t
+  under-pass X t w = (w .0 .0, peak-under (series T) X 0 0 t (w .0 .1) (w .1))
 
   -- everything allowed is under no ceiling
   pub open-under : (t : List ℕ) → P .allowed t → UnderCeiling P no-ceiling t
   open-under t a = (a, omega (arith, peak-fits t a))
 
   pub thrifty-passed : {rule : Rule} {before after : List ℕ} {found : Bool} → rule .a ≡ 1 → rule .b ≡ rate-first →
-      Passed (asked N Q law rates distortions (rule .ceiling)) N Q rule before after found → ThriftyPass P N Q (rule .ceiling) before after found
+      PassOf (pass-problem (rule .ceiling) T) N Q rule before after found → ThriftyPass P N Q (rule .ceiling) before after found
   thrifty-passed {rule} {before} {after} ea eb p = record {
-    none = λ e t w. p .none e t (under-asked (rule .ceiling) t w);
+    none = λ e t w. p .none e t (under-pass (rule .ceiling) t w);
     some = λ e. ceiling-by-key P most-total sums-small (rule .ceiling) 1 rate-first rates-first (chosen Q N after) .0
-        (rw (ea, eb) at (least-same (asked-under (rule .ceiling)) (under-asked (rule .ceiling)) (p .some e)));
+        (rw (ea, eb) at (least-same (pass-under-peak (rule .ceiling)) (under-pass (rule .ceiling)) (p .some e)));
     framed = record { long = p .long; rest = p .rest };
   }
 
   pub multiplier-passed : {rule : Rule} {before after : List ℕ} {found : Bool} (n d : ℕ) → Weighed n d (rule .a) (rule .b) → rule .ceiling ≡ no-ceiling →
-      Passed (asked N Q law rates distortions (rule .ceiling)) N Q rule before after found → MultiplierPass P N Q n d before after found
+      PassOf (pass-problem (rule .ceiling) T) N Q rule before after found → MultiplierPass P N Q n d before after found
   multiplier-passed {rule} {before} {after} n d w e p = record {
-    none = λ f t a. p .none f t (under-asked (rule .ceiling) t (rw e (open-under t a)));
+    none = λ f t a. p .none f t (under-pass (rule .ceiling) t (rw e (open-under t a)));
     some = λ f. multiplier-by-key P most-total sums-small n d (rule .a) (rule .b) (w .near) (chosen Q N after) .0
-        (least-same (λ t a. asked-under (rule .ceiling) t a .0) (λ t a. under-asked (rule .ceiling) t (rw e (open-under t a))) (p .some f));
+        (least-same (λ t a. pass-under-peak (rule .ceiling) t a .0) (λ t a. under-pass (rule .ceiling) t (rw e (open-under t a))) (p .some f));
     framed = record { long = p .long; rest = p .rest };
   }
 
@@ -113,6 +113,11 @@ wiped-same {k} {before} {after} f = ap (λ (l : List ℕ). replicate k 0 ++ l) (
     (λ i h. rw (getD-drop k after i 0, getD-drop k before i 0) (f .rest (k + i) (omega arith))))
 
 -- scratch is as long after a pass as before it
-pub fit-framed : {N Q law k : ℕ} {rates distortions before after : List ℕ} → Fit N Q law rates distortions (length before) → Framed k before after →
-    Fit N Q law rates distortions (length after)
+pub fit-framed : {N Q k : ℕ} {rates distortions before after : List ℕ} → Fit N Q rates distortions (length before) → Framed k before after →
+    Fit N Q rates distortions (length after)
 fit-framed fit f = rw (f .long) fit
+
+-- so it can be wiped
+pub wipe-fits : {N Q : ℕ} {rates distortions : List ℕ} {room : ℕ} → Fit N Q rates distortions room →
+    (N ≤ most-scans) × ((Q ≤ most-settings) × (scratch-need N Q ≤ room))
+wipe-fits f = (f .scans, (f .settings, f .room))

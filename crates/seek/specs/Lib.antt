@@ -1,3 +1,3 @@
 -- What passes, the start and the end of a call leave.
-pub mod Passes
+pub mod Sought
 pub mod Started

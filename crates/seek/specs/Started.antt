@@ -1,17 +1,18 @@
 -- How a call with a budget starts. No promise cites it. Assumes nothing.
 use mathlib.Core.Path.{_≡_}
 use mathlib.Core.List.{List, _++_}
-use Prim.Native.Nat.{ℕ, _*_}
+use Prim.Native.Nat.{ℕ}
 use lib.ListN.{drop, replicate}
+use Rattle.tables.specs.Tables.{scratch-need}
 use Rattle.criteria.specs.Choice.{Problem, InBudget, NoneAllowed, NoneWithin}
 use Rattle.tables.specs.declared.refusal.Refusal.the-variants as refusal
 use Rattle.walk.specs.declared.Totals.{Totals}
 use Rattle.seek.specs.declared.start.Started.{Started}
 use Rattle.seek.specs.declared.start.Started.the-variants.{Plan, Refused}
-use Rattle.seek.specs.Passes.{Framed, ThriftyTotals}
+use Rattle.seek.specs.Sought.{Framed, ThriftyTotals}
 
 pub data StartedAs (P : Problem) (N Q B : ℕ) (before after : List ℕ) : Started → Type 0 where
-  fits : {t : Totals} → ThriftyTotals P B t → Framed (N * Q) before after → StartedAs P N Q B before after (Plan t)
-  none-allowed : NoneAllowed P → after ≡ replicate (N * Q) 0 ++ drop (N * Q) before → StartedAs P N Q B before after (Refused refusal.NoSequence)
-  none-fits : NoneWithin P (InBudget P B) → after ≡ replicate (N * Q) 0 ++ drop (N * Q) before →
+  fits : {t : Totals} → ThriftyTotals P B t → Framed (scratch-need N Q) before after → StartedAs P N Q B before after (Plan t)
+  none-allowed : NoneAllowed P → after ≡ replicate (scratch-need N Q) 0 ++ drop (scratch-need N Q) before → StartedAs P N Q B before after (Refused refusal.NoSequence)
+  none-fits : NoneWithin P (InBudget P B) → after ≡ replicate (scratch-need N Q) 0 ++ drop (scratch-need N Q) before →
       StartedAs P N Q B before after (Refused refusal.NoneWithin)

@@ -10,7 +10,7 @@ ghost use Rattle.tables.specs.Limits.{«most-term»};
 ghost use Rattle.tables.specs.Tables.{table, planning};
 ghost use Rattle.checks.specs.Fit.{Fit};
 ghost use Rattle.keys.specs.OneKey.{Weighed};
-ghost use Rattle.seek.specs.Passes.{ThriftyPass, MultiplierPass, «no-ceiling»};
+ghost use Rattle.seek.specs.Sought.{ThriftyPass, MultiplierPass, «no-ceiling»};
 
 // Above every distortion.
 pub const NO_CEILING: u32 = 4294967295;
@@ -27,7 +27,7 @@ pub fn thrifty_pass(
     distortions: &[u32],
     scratch: &mut [u8],
 ) -> bool
-    requires { ⌜ Fit scans settings law (now rates) (now distortions) (length (now scratch)) ⌝ }
+    requires { ⌜ Fit scans settings (now rates) (now distortions) (length (now scratch)) ⌝ }
     ensures { λ r. ⌜ ThriftyPass (planning (table scans settings law (now (rates .entry)) (now (distortions .entry)))) scans settings ceiling (now (scratch .entry)) (now (scratch .exit)) r ⌝ }
 {
     let rule = Rule {
@@ -61,7 +61,7 @@ pub fn multiplier_pass(
     distortions: &[u32],
     scratch: &mut [u8],
 ) -> bool
-    requires { ⌜ Fit scans settings law (now rates) (now distortions) (length (now scratch)) ⌝ }
+    requires { ⌜ Fit scans settings (now rates) (now distortions) (length (now scratch)) ⌝ }
     requires { ⌜ (n ≤ most-term) × ((1 ≤ d) × (d ≤ most-term)) ⌝ }
     ensures { λ r. ⌜ MultiplierPass (planning (table scans settings law (now (rates .entry)) (now (distortions .entry)))) scans settings n d (now (scratch .entry)) (now (scratch .exit)) r ⌝ }
 {

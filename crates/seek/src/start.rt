@@ -26,7 +26,7 @@ pub fn start(
     distortions: &[u32],
     scratch: &mut [u8],
 ) -> Started
-    requires { ⌜ Fit scans settings law (now rates) (now distortions) (length (now scratch)) ⌝ }
+    requires { ⌜ Fit scans settings (now rates) (now distortions) (length (now scratch)) ⌝ }
     ensures { λ r. ⌜ StartedAs (planning (table scans settings law (now (rates .entry)) (now (distortions .entry)))) scans settings budget (now (scratch .entry)) (now (scratch .exit)) r ⌝ }
 {
     if !thrifty_pass(
@@ -38,12 +38,12 @@ pub fn start(
         distortions,
         scratch,
     ) {
-        wipe(scratch, scans * settings);
+        wipe(scratch, scans, settings);
         return Started::Refused(Refusal::NoSequence);
     }
     let totals = total_up(scans, settings, law, rates, distortions, scratch);
     if budget < totals.rate.0 {
-        wipe(scratch, scans * settings);
+        wipe(scratch, scans, settings);
         return Started::Refused(Refusal::NoneWithin);
     }
     Started::Plan(totals)

@@ -9,8 +9,9 @@ use Rattle.criteria.specs.Choice.{Problem, Multiplier}
 use Rattle.criteria.specs.Passes.{Thriftiest, Slope, last, fitting, over, none-fits, zero-fits, by-slopes}
 use Rattle.criteria.proofs.Finite.{Finite}
 use Rattle.criteria.proofs.Check.{proof, with, average?, average-floor?, none-within?, ceiling?, minmax?, multiplier?, best?, given}
-use Rattle.tables.specs.Bench.{tableT, tableU, T, U, AverageAnswer, HasWithin, Totals, claims, more-claims, Every, _also_, no-more}
-use Rattle.tables.proofs.Listing.{table-finite, law?}
+use Rattle.tables.specs.Bench.{tableT, tableU, T, U, AverageClaim, HasWithin, HasTotals, claims, more-claims, Every, _also_, no-more}
+use Rattle.tables.proofs.Listing.{table-finite}
+use Rattle.tables.proofs.LawLaws.{law?}
 
 abbrev T-finite : Finite T
 T-finite = table-finite tableT (law? 0)
@@ -18,14 +19,14 @@ T-finite = table-finite tableT (law? 0)
 abbrev U-finite : Finite U
 U-finite = table-finite tableU (law? 0)
 
-abbrev answer? : (P : Problem) → Finite P → (B : ℕ) (s : List ℕ) (n d F : ℕ) → Option (AverageAnswer P B s n d F)
+abbrev answer? : (P : Problem) → Finite P → (B : ℕ) (s : List ℕ) (n d F : ℕ) → Option (AverageClaim P B s n d F)
 answer? P fin B s n d F =
     with (with (some (λ a f. record { average = a; floor = f })) (average? P fin B n d s)) (average-floor? P fin B n d s F)
 
 abbrev allowed? : (P : Problem) → Finite P → (s : List ℕ) → Option (P .allowed s)
 allowed? P fin s = given (fin .decide s)
 
-abbrev totals? : (P : Problem) → Finite P → (s : List ℕ) (R D X : ℕ) → Option (Totals P s R D X)
+abbrev totals? : (P : Problem) → Finite P → (s : List ℕ) (R D X : ℕ) → Option (HasTotals P s R D X)
 totals? P fin s R D X =
     with (with (with (with (some (λ a r d x. record { allowed = a; rate = r; distortion = d; peak = x })) (allowed? P fin s))
     (given (ℕ-discrete (P .rate s) R))) (given (ℕ-discrete (P .distortion s) D))) (given (ℕ-discrete (P .peak s) X))
@@ -50,7 +51,7 @@ bench =
     also proof (multiplier? T T-finite 3 5 _) tt
     also no-more
   where
-    seven : AverageAnswer U 7 (2 ∷ []) 10 7 3 × HasWithin U 7 (1 ∷ []) 8
+    seven : AverageClaim U 7 (2 ∷ []) 10 7 3 × HasWithin U 7 (1 ∷ []) 8
     seven = (
       proof (answer? U U-finite _ _ _ _ _) tt,
       record { within = (proof (allowed? U U-finite (1 ∷ [])) tt, lit≤ tt); distortion = refl },

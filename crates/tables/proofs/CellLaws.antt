@@ -5,7 +5,7 @@ use native.Mathlib.Nat.{mul-le-mul-left, mul-le-mul-right}
 use native.Mathlib.Omega.{arith}
 use Rattle.laws.proofs.Lists.{part}
 use Rattle.tables.specs.Limits.{most-scans, most-settings, most-channels}
-use Rattle.tables.specs.Tables.{cells, cell}
+use Rattle.tables.specs.Tables.{cells, cell, scratch-need}
 
 pub product-small : {a b : ℕ} (m : ℕ) → a ≤ m → b ≤ most-settings → a * b ≤ m * 16
 product-small {a} {b} m h g = omega (arith, mul-le-mul-left a g, mul-le-mul-right {m = a} {n = m} 16 h)
@@ -35,3 +35,11 @@ pub cell-inside : (N Q i p q : ℕ) → i < N → p < Q → q < Q → cell Q i p
 cell-inside N Q zero p q h l m = omega arith
 cell-inside N Q (suc i) p q h l m =
     omega (arith, part Q {j = p} {m = Q} l, part (Q * Q) {j = i} {m = N - 1} (omega arith))
+
+-- the scratch of a call is a product, and small
+pub need-is : (N Q : ℕ) → N * Q ≡ scratch-need N Q
+unfolding scratch-need
+need-is N Q = refl
+
+pub need-small : {N Q : ℕ} → N ≤ most-scans → Q ≤ most-settings → N * Q ≤ 16384
+need-small h g = product-small 1024 h g

@@ -4,5 +4,5 @@ pub mod RefusalLaws
 pub mod Listing
 pub mod Bench
 pub mod SeriesLaws
-pub mod Totals
+pub mod Bounds
 pub mod Hidden

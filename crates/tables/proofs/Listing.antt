@@ -2,16 +2,17 @@
 use mathlib.Core.Path.{_≡_, refl, ap}
 use mathlib.Core.Logic.{_⊎_, inl, inr}
 use mathlib.Core.List.{List, [], _∷_, _++_, map, List·Memᴰ, List·Memᴰ·head, List·Memᴰ·tail, Memᴰ·append-left, Memᴰ·append-right}
-use Prim.Native.Nat.{ℕ, zero, suc, _+_, _<_}
+use Prim.Native.Nat.{ℕ, zero, suc, _<_}
 use native.Mathlib.Nat.{eq-or-lt-of-le, le-of-suc-le-suc}
-use native.Mathlib.Decide.{decLt, decLe, ℕ-discrete}
+use native.Mathlib.Decide.{decLt, ℕ-discrete}
 use native.Mathlib.Omega.{arith}
 use lib.ListN.{length}
 use Rattle.criteria.proofs.Decide.{dec-×, dec-×₃, not?}
 use Rattle.criteria.proofs.Finite.{Finite}
+use Rattle.tables.proofs.LawLaws.{law?}
 use Rattle.tables.specs.Limits.{forbidden}
 use Rattle.tables.specs.Series.{Series, Kept, problem}
-use Rattle.tables.specs.Law.{Law, law-of, Follows}
+use Rattle.tables.specs.Law.{Law, Follows}
 use Rattle.tables.specs.Tables.{Table, rate-at, series, planning, table}
 
 -- each number below b before each list
@@ -62,12 +63,6 @@ follows? law? (suc i) p q = law? p q
 abbrev pub table-finite : (t : Table) → ((p q : ℕ) → Dec (t .law p q)) → Finite (planning t)
 table-finite t law? =
     finite (series t) (λ i p q. dec-× (not? (ℕ-discrete (rate-at t i p q) forbidden)) (follows? {law = t .law} law? i p q))
-
--- the laws of document 01 are decided
-abbrev pub law? : (k p q : ℕ) → Dec (law-of k p q)
-law? zero p q = yes tt
-law? (suc zero) p q = dec-× (decLe p (q + 2)) (decLe q (p + 2))
-law? (suc (suc k)) p q = no (λ h. h)
 
 -- so a table with a law by number has finitely many sequences
 abbrev pub numbered-finite : (N Q law : ℕ) (rates distortions : List ℕ) → Finite (planning (table N Q law rates distortions))

@@ -21,7 +21,7 @@ abbrev pub U : Problem
 U = planning tableU
 
 -- an average answer: the plan s, its multiplier n/d and its floor F
-pub record AverageAnswer (P : Problem) (B : ℕ) (s : List ℕ) (n d F : ℕ) : Type 0 where
+pub record AverageClaim (P : Problem) (B : ℕ) (s : List ℕ) (n d F : ℕ) : Type 0 where
   pub average : Average P B n d s
   pub floor : AverageFloor P B n d s F
 
@@ -31,7 +31,7 @@ pub record HasWithin (P : Problem) (B : ℕ) (s : List ℕ) (D : ℕ) : Type 0 w
   pub distortion : P .distortion s ≡ D
 
 -- "Its sequences (rate, distortion, peak)"
-pub record Totals (P : Problem) (s : List ℕ) (R D X : ℕ) : Type 0 where
+pub record HasTotals (P : Problem) (s : List ℕ) (R D X : ℕ) : Type 0 where
   pub allowed : P .allowed s
   pub rate : P .rate s ≡ R
   pub distortion : P .distortion s ≡ D
@@ -40,13 +40,13 @@ pub record Totals (P : Problem) (s : List ℕ) (R D X : ℕ) : Type 0 where
 -- P1 to P14, in order
 abbrev pub claims : List (Type 0)
 claims =
-    AverageAnswer T 18 (0 ∷ 0 ∷ []) 0 1 5
-    ∷ AverageAnswer T 17 (0 ∷ 1 ∷ []) 3 5 6
-    ∷ AverageAnswer T 13 (0 ∷ 1 ∷ []) 3 5 8
-    ∷ AverageAnswer T 12 (1 ∷ 1 ∷ []) 9 4 11
-    ∷ AverageAnswer T 9 (1 ∷ 1 ∷ []) 9 4 17
+    AverageClaim T 18 (0 ∷ 0 ∷ []) 0 1 5
+    ∷ AverageClaim T 17 (0 ∷ 1 ∷ []) 3 5 6
+    ∷ AverageClaim T 13 (0 ∷ 1 ∷ []) 3 5 8
+    ∷ AverageClaim T 12 (1 ∷ 1 ∷ []) 9 4 11
+    ∷ AverageClaim T 9 (1 ∷ 1 ∷ []) 9 4 17
     ∷ NoneWithin T (InBudget T 8)
-    ∷ (AverageAnswer U 7 (2 ∷ []) 10 7 3 × HasWithin U 7 (1 ∷ []) 8)
+    ∷ (AverageClaim U 7 (2 ∷ []) 10 7 3 × HasWithin U 7 (1 ∷ []) 8)
     ∷ Ceiling T 7 (0 ∷ 1 ∷ [])
     ∷ Ceiling T 5 (0 ∷ 0 ∷ [])
     ∷ NoneWithin T (UnderCeiling T 2)
@@ -59,10 +59,10 @@ claims =
 -- "00 (18, 5, 3); 01 (13, 8, 6); 10 (13, 11, 7); 11 (9, 17, 10)"; and document 02, [13]: "T needs 2 at budget 18, 4 at 17, 4 at 12, and 1 at 8"
 abbrev pub more-claims : List (Type 0)
 more-claims =
-    Totals T (0 ∷ 0 ∷ []) 18 5 3
-    ∷ Totals T (0 ∷ 1 ∷ []) 13 8 6
-    ∷ Totals T (1 ∷ 0 ∷ []) 13 11 7
-    ∷ Totals T (1 ∷ 1 ∷ []) 9 17 10
+    HasTotals T (0 ∷ 0 ∷ []) 18 5 3
+    ∷ HasTotals T (0 ∷ 1 ∷ []) 13 8 6
+    ∷ HasTotals T (1 ∷ 0 ∷ []) 13 11 7
+    ∷ HasTotals T (1 ∷ 1 ∷ []) 9 17 10
     ∷ Passes T 18 2
     ∷ Passes T 17 4
     ∷ Passes T 12 4

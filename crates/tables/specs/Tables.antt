@@ -12,6 +12,10 @@ use Rattle.tables.specs.Law.{Law, Follows, law-of}
 abbrev pub cells : ℕ → ℕ → ℕ
 cells N Q = Q + (N - 1) * (Q * Q)
 
+-- "scratch N × Q": the bytes that a planning call borrows for its choices
+unfoldable pub scratch-need : ℕ → ℕ → ℕ
+scratch-need N Q = N * Q
+
 -- "Scan 0, setting q: cell q. Scan i from 1, previous setting p, setting q: cell Q + (i - 1)Q² + pQ + q."
 abbrev pub cell : ℕ → ℕ → ℕ → ℕ → ℕ
 cell Q zero p q = q

@@ -1,12 +1,23 @@
-// The step laws, by number.
+// The step laws, by number: which numbers are laws, what each allows, and the run of settings that it lets follow one. Nothing else in this
+// library knows a law's number. A number that is no law allows nothing.
 ghost use mathlib.Core.Path.{_≡_};
-ghost use mathlib.Core.Logic.{_↔_};
-ghost use mathlib.Core.Bool.{true};
-ghost use Rattle.tables.specs.Law.{«law-of»};
+ghost use Prim.Native.Nat.{_-_, _≤_, _<_, min};
+ghost use Rattle.tables.specs.Limits.{«most-settings»};
+ghost use Rattle.tables.specs.Law.{«law-of», allows, «law-out», SideBySide};
 
-// May this setting follow that one? Any number but 0 and 1 is no law, and allows nothing.
+// Is this no law's number?
+pub fn unknown(law: u64) -> bool
+    ensures { λ r. ⌜ r ≡ law-out law ⌝ }
+{
+    if law == 0 {
+        return false;
+    }
+    law != 1
+}
+
+// May this setting follow that one?
 pub fn keeps(law: u64, before: u64, setting: u64) -> bool
-    ensures { λ r. ⌜ (r ≡ true) ↔ law-of law before setting ⌝ }
+    ensures { λ r. ⌜ r ≡ allows law before setting ⌝ }
 {
     if law == 0 {
         return true;
@@ -18,4 +29,52 @@ pub fn keeps(law: u64, before: u64, setting: u64) -> bool
         return before - setting <= 2;
     }
     false
+}
+
+// Settings side by side: from `from` up to and without `to`.
+pub struct Span {
+    pub from: usize,
+    pub to: usize,
+}
+
+fn lowered(x: usize, by: usize) -> usize
+    ensures { λ r. ⌜ r ≡ x - by ⌝ }
+{
+    if by < x {
+        return x - by;
+    }
+    0
+}
+
+fn lesser(x: usize, y: usize) -> usize
+    ensures { λ r. ⌜ r ≡ min x y ⌝ }
+{
+    if x < y { x } else { y }
+}
+
+// All settings, where no law is asked.
+pub fn all(settings: usize) -> Span
+    ensures { λ r. ⌜ (r .from ≡ 0) × (r .to ≡ settings) ⌝ }
+{
+    Span {
+        from: 0,
+        to: settings,
+    }
+}
+
+// The settings that may follow one lie side by side, under every law.
+pub fn run(law: u64, before: usize, settings: usize) -> Span
+    requires { ⌜ (before < settings) × (settings ≤ most-settings) ⌝ }
+    ensures { λ r. ⌜ SideBySide (law-of law) before settings (r .from) (r .to) ⌝ }
+{
+    if law == 0 {
+        return all(settings);
+    }
+    if law == 1 {
+        return Span {
+            from: lowered(before, 2),
+            to: lesser(before + 3, settings),
+        };
+    }
+    Span { from: 0, to: 0 }
 }

@@ -18,8 +18,8 @@ ghost use Prim.Native.Nat.{_+_, _≤_, _<_, _^_};
 ghost use lib.ListN.{length};
 ghost use lib.Seq.{sets};
 ghost use Rattle.tables.specs.Refusals.{refused, carriedBy};
-ghost use Rattle.planfile.specs.Reading.{«read-reply», «values-of» as «field-values»};
-ghost use Rattle.promise.specs.Promise.{«plan-reply», «minmax-reply», «average-reply», «values-of»};
+ghost use Rattle.planfile.specs.Reading.{«read-reply», «field-values»};
+ghost use Rattle.promise.specs.Promise.{«plan-reply», «minmax-reply», «average-reply», «total-values»};
 ghost use Rattle.telling.specs.Told.{eights, Told, «word-of», lent as Lent};
 ghost use Rattle.telling.specs.Parts.{Tellable, «room-values», «average-values»};
 
@@ -60,14 +60,14 @@ pub fn put_room(room: Room, answer: &mut [u8])
 
 fn put_plan(t: Totals, answer: &mut [u8])
     requires { ⌜ 24 ≤ length (now answer) ⌝ }
-    ensures { λ _. ⌜ now (answer .exit) ≡ sets (now (answer .entry)) 0 (eights (values-of t)) ⌝ }
+    ensures { λ _. ⌜ now (answer .exit) ≡ sets (now (answer .entry)) 0 (eights (total-values t)) ⌝ }
 {
     put_three(answer, 0, t.rate.0, t.distortion.0, t.peak);
 }
 
 fn put_minmax(m: MinmaxPlan, answer: &mut [u8])
     requires { ⌜ 32 ≤ length (now answer) ⌝ }
-    ensures { λ _. ⌜ now (answer .exit) ≡ sets (now (answer .entry)) 0 (eights (m .ceiling ∷ values-of (m .totals))) ⌝ }
+    ensures { λ _. ⌜ now (answer .exit) ≡ sets (now (answer .entry)) 0 (eights (m .ceiling ∷ total-values (m .totals))) ⌝ }
 {
     let t = m.totals;
     put_eight(answer, 0, m.ceiling);

@@ -1,5 +1,5 @@
 pub mod SquareLaws
-pub mod BandLaws
+pub mod ChoiceLaws
 pub mod StepLaws
 pub mod Onward
 pub mod Rows

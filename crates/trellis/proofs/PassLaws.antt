@@ -1,145 +1,136 @@
--- A pass over the tables: what each scan's arrays say of the series, and what the last row says of all sequences. Assumes nothing.
+-- A pass over a table under any law: what each scan's arrays say of the series, and what the last row says of all sequences. The law enters as
+-- which pairs it allows, and as nothing else. Assumes nothing.
 use mathlib.Core.Path.{_≡_, refl, sym, ap, subst, _∙_}
 use mathlib.Core.Bool.{true, false}
 use mathlib.Core.List.{List, [], _∷_}
 use Prim.Native.Nat.{ℕ, zero, suc, _+_, _-_, _*_, _≤_, _<_}
-use native.Mathlib.Nat.{mul-le-mul, mul-le-mul-right}
 use native.Mathlib.Omega.{arith}
 use lib.Dec.{ltb}
-use lib.ListN.{length, getD, set, replicate, getD-replicate}
-use lib.Seq.{getD-set-same, getD-set-other}
+use lib.ListN.{length, getD, replicate, getD-replicate}
 use borrow.Author.Tests.{ltb-true, ltb-false}
 use Rattle.criteria.specs.Choice.{NoneAllowed}
+use Rattle.laws.proofs.Lists.{part}
 use Rattle.tables.specs.Series.{Series, total}
-use Rattle.tables.specs.Tables.{Table, cells, rate-at, distortion-at, series, table}
-use Rattle.tables.specs.Law.{law-of, Follows}
+use Rattle.tables.specs.Law.{Law, Follows}
+use Rattle.tables.specs.Tables.{Table, cells, series}
 use Rattle.tables.proofs.CellLaws.{later-cell}
-use Rattle.tables.proofs.Totals.{Small, table-small, total-small, legal-anywhere}
+use Rattle.tables.proofs.Bounds.{Bounded, table-small, total-small, legal-anywhere}
+use Rattle.checks.specs.Fit.{Fit}
+use Rattle.checks.proofs.FitLaws.{fit-legal}
 use Rattle.keys.specs.OneKey.{Least}
 use Rattle.least.specs.declared.Rule.{Rule}
 use Rattle.least.specs.Row.{no-way, price-of, candidate, Ready, BestOf, Light}
-use Rattle.trellis.specs.Step.{Sixteen, band-from, band-to}
-use Rattle.trellis.specs.Stepped.{Stepped}
-use Rattle.trellis.specs.Chosen.{choice, walk, chosen}
-use Rattle.checks.specs.Fit.{Fit}
-use Rattle.trellis.specs.Pass.{under, asked, weighed}
 use Rattle.least.proofs.PriceLaws.{cell-fits, open-price, price-open}
-use Rattle.trellis.proofs.BandLaws.{band-in, band-out}
-use Rattle.laws.proofs.Lists.{part}
-use Rattle.checks.proofs.FitLaws.{fit-legal}
+use Rattle.trellis.specs.Square.{Sixteen}
+use Rattle.trellis.specs.Stepped.{BestAmong, Stepped}
+use Rattle.trellis.specs.Choices.{choice, ChoiceStored, walk, chosen}
+use Rattle.trellis.specs.Pass.{under, pass-problem, weighed}
+use Rattle.trellis.proofs.StepLaws.{all-best, best-of-same}
 use Rattle.trellis.proofs.Onward.{LeastOn}
-use Rattle.trellis.proofs.Rows.{Row, Chosen, Below, row-end, row-step, row-frame}
+use Rattle.trellis.proofs.Rows.{Row, BestChoice, Below, row-end, row-step, row-frame}
 
 -- a square of zeros
 pub sixteen-zero : Sixteen (replicate 16 (replicate 16 0))
 sixteen-zero = (refl, λ p h. ap length (getD-replicate 16 p (replicate 16 0) [] h) ∙ refl)
 
--- the choice of scan 0 has its byte
-pub some-room : {N Q law room : ℕ} {rates distortions : List ℕ} → Fit N Q law rates distortions room → 1 ≤ N * Q
-some-room fit = mul-le-mul (fit .some-scans) (fit .some-settings)
-
--- the last cell of scan i's square, and its last choice
+-- the last cell of scan i's square
 pub square-ends : (N Q i : ℕ) → 0 < i → i < N → Q + (i - 1) * (Q * Q) + Q * Q ≤ cells N Q
 square-ends N Q i h g = omega (arith, part (Q * Q) {j = i - 1} {m = N - 1} (omega arith))
 
-module _ (N Q law : ℕ) (rates distortions : List ℕ) (rule : Rule) where
-  abbrev T : Table
-  T = table N Q law rates distortions
+-- what may follow at a later scan is what the law allows
+follows-later : (law : Law) (i p q : ℕ) → 0 < i → law p q → Follows law i p q
+follows-later law zero p q h l = absurd (omega arith)
+follows-later law (suc i) p q h l = l
 
+later-follows : (law : Law) (i p q : ℕ) → 0 < i → Follows law i p q → law p q
+later-follows law zero p q h l = absurd (omega arith)
+later-follows law (suc i) p q h l = l
+
+module _ (t : Table) (rule : Rule) where
   -- the steps that a pass looks at, and what each costs it
   abbrev pub steps : Series
-  steps = under (rule .ceiling) (series T)
+  steps = under (rule .ceiling) (series t)
 
   abbrev pub step-cost : ℕ → ℕ → ℕ → ℕ
-  step-cost i p q = rule .a * distortion-at T i p q + rule .b * rate-at T i p q
+  step-cost i p q = rule .a * series t .distortion i p q + rule .b * series t .rate i p q
 
   -- the cost of a sequence is its weight
-  pub cost-total : (i p : ℕ) (s : List ℕ) → total step-cost i p s ≡ rule .a * total (distortion-at T) i p s + rule .b * total (rate-at T) i p s
+  pub cost-total : (i p : ℕ) (s : List ℕ) →
+      total step-cost i p s ≡ rule .a * total (series t .distortion) i p s + rule .b * total (series t .rate) i p s
   cost-total i p [] = omega arith
   cost-total i p (q ∷ s) = omega (arith, cost-total (suc i) q s)
+
+  -- what a choice costs, as the pass prices it
+  abbrev pub priced-at : ℕ → ℕ → ℕ → ℕ
+  priced-at i p q = price-of rule (series t .rate i p q) (series t .height i p q) (series t .distortion i p q)
 
   -- the scans after i are done: what lies ahead of each setting of scan i
   pub record Done (i : ℕ) (scratch keys : List ℕ) : Type 0 where
     pub left : ℕ
-    pub all : i + suc left ≡ N
-    pub row : Row steps step-cost Q left (suc i) (choice Q scratch) (λ p. getD keys p 0)
+    pub all : i + suc left ≡ t .N
+    pub row : Row steps step-cost (t .Q) left (suc i) (choice (t .Q) scratch) (λ p. getD keys p 0)
 
-  module _ {room : ℕ} (fit : Fit N Q law rates distortions room) (light : Light rule) where
-    small : Small (series T)
-    small = table-small T (fit-legal fit)
+  module _ {room : ℕ} (fit : Fit (t .N) (t .Q) (t .rates) (t .distortions) room) (light : Light rule) where
+    small : Bounded (series t)
+    small = table-small t (fit-legal {t = t} fit)
 
     step-small : (i p q : ℕ) → steps .may i p q → step-cost i p q ≤ 4503595332403200
     step-small i p q m = omega (
       arith,
-      cell-fits {x = distortion-at T i p q} (light .0) (small .distortion i p q (m .0)),
-      cell-fits {x = rate-at T i p q} (light .1) (small .rate i p q (m .0)),
+      cell-fits {x = series t .distortion i p q} (light .0) (small .distortion i p q (m .0)),
+      cell-fits {x = series t .rate i p q} (light .1) (small .rate i p q (m .0)),
     )
 
-    below : (n i : ℕ) → n ≤ N → Below steps step-cost n i
-    below n i h p t o = omega (arith, o .0, fit .scans, total-small steps step-cost 4503595332403200 step-small i p t (o .1))
+    below : (n i : ℕ) → n ≤ t .N → Below steps step-cost n i
+    below n i h p s o = omega (arith, o .0, fit .scans, total-small steps step-cost 4503595332403200 step-small i p s (o .1))
 
-    -- the least of the candidates from lo up to hi, where those are the settings that may follow
-    pub chosen-by : {i p lo hi v q : ℕ} (x k : ℕ → ℕ) → ((r : ℕ) → r < Q → Follows (law-of law) i p r → (lo ≤ r) × (r < hi)) →
-        ((r : ℕ) → lo ≤ r → r < hi → (r < Q) × Follows (law-of law) i p r) →
-        ((r : ℕ) → lo ≤ r → r < hi → x r ≡ price-of rule (rate-at T i p r) (distortion-at T i p r) + k r) →
-        BestOf x lo hi v q → Chosen steps step-cost i p k v q
-    chosen-by {i} {p} {lo} {hi} {v} {q} x k in-band out-band is b = record {
+    -- the best of the candidates that may follow is the best choice
+    chosen-by : {i p v q : ℕ} (x k : ℕ → ℕ) → ((r : ℕ) → r < t .Q → x r ≡ priced-at i p r + k r) →
+        BestAmong (λ r. (r < t .Q) × Follows (t .law) i p r) x v q → BestChoice steps step-cost i p k v q
+    chosen-by {i} {p} {v} {q} x k is b = record {
       capped = b .capped;
-      least = λ r h m. let w = in-band r h (m .0 .1) in omega (arith, b .least r (w .0) (w .1), is-open r h m);
+      least = λ r h m. omega (arith, b .least r (h, m .0 .1), is-open r h m);
       found = λ e. let w = b .found e in
-          let o = out-band q (w .0) (w .1) in
-          let c = price-open rule (rate-at T i p q) (distortion-at T i p q) (omega (arith, w .2, is q (w .0) (w .1))) in
-          (o .0, ((c .0, o .1), c .1), omega (arith, w .2, is-open q (o .0) ((c .0, o .1), c .1)));
-      first = λ e r h m l. let w = in-band r h (m .0 .1) in omega (arith, b .before e r (w .0) l, is-open r h m);
+          let c = price-open rule (series t .rate i p q) (series t .height i p q) (series t .distortion i p q) (omega (arith, w .1, is q (w .0 .0))) in
+          (w .0 .0, ((c .0, w .0 .1), c .1), omega (arith, w .1, is-open q (w .0 .0) ((c .0, w .0 .1), c .1)));
+      first = λ e r h m l. omega (arith, b .before e r (h, m .0 .1) l, is-open r h m);
     }
       where
-        is-open : (r : ℕ) → r < Q → steps .may i p r → x r ≡ step-cost i p r + k r
-        is-open r h m =
-            let w = in-band r h (m .0 .1) in
-            is r (w .0) (w .1) ∙ ap (λ (y : ℕ). y + k r) (open-price rule (rate-at T i p r) (distortion-at T i p r) (m .0 .0) (m .1))
+        is-open : (r : ℕ) → r < t .Q → steps .may i p r → x r ≡ step-cost i p r + k r
+        is-open r h m = is r h
+            ∙ ap (λ (y : ℕ). y + k r) (open-price rule (series t .rate i p r) (series t .height i p r) (series t .distortion i p r) (m .0 .0) (m .1))
 
-    -- a row of the tables' cells is ready for the least of its candidates
-    pub ready : (rs ds keys : List ℕ) (at : ℕ → ℕ) → ((q : ℕ) → q < Q → getD rs q 0 ≡ getD rates (at q) 0) →
-        ((q : ℕ) → q < Q → getD ds q 0 ≡ getD distortions (at q) 0) → ((q : ℕ) → q < Q → getD keys q 0 ≤ no-way) → Ready Q rs ds keys
+    -- a row of the table's cells is ready for the least of its candidates
+    pub ready : (rs ds keys : List ℕ) (at : ℕ → ℕ) → ((q : ℕ) → q < t .Q → getD rs q 0 ≡ getD (t .rates) (at q) 0) →
+        ((q : ℕ) → q < t .Q → getD ds q 0 ≡ getD (t .distortions) (at q) 0) → ((q : ℕ) → q < t .Q → getD keys q 0 ≤ no-way) → Ready (t .Q) rs ds keys
     ready rs ds keys at e g h q l =
-        let c = legal-anywhere rates distortions (omega (arith, fit .rates-long, fit .distortions-long)) (fit .legal) (at q) in
+        let c = legal-anywhere (t .rates) (t .distortions) (omega (arith, fit .rates-long, fit .distortions-long)) (fit .legal) (at q) in
         (rw (e q l) (c .0), rw (e q l, g q l) (c .1), h q l)
 
     -- nothing lies after the last scan
-    pub done-none : (i : ℕ) (scratch keys : List ℕ) → i ≡ N - 1 → ((p : ℕ) → p < Q → getD keys p 0 ≡ 0) → Done i scratch keys
+    pub done-none : (i : ℕ) (scratch keys : List ℕ) → i ≡ t .N - 1 → ((p : ℕ) → p < t .Q → getD keys p 0 ≡ 0) → Done i scratch keys
     done-none i scratch keys e z = record {
       left = 0;
       all = omega (arith, fit .some-scans);
-      row = row-end steps step-cost Q (suc i) (choice Q scratch) (λ p. getD keys p 0) z;
+      row = row-end steps step-cost (t .Q) (suc i) (choice (t .Q) scratch) (λ p. getD keys p 0) z;
     }
-
-    -- what may follow at a later scan is the band of its law
-    later-in : (i p r : ℕ) → 0 < i → r < Q → Follows (law-of law) i p r → (band-from law p ≤ r) × (r < band-to law p Q)
-    later-in zero p r h l m = absurd (omega arith)
-    later-in (suc i) p r h l m = band-in law (fit .law-known) Q p r l m
-
-    later-out : (i p r : ℕ) → 0 < i → band-from law p ≤ r → r < band-to law p Q → (r < Q) × Follows (law-of law) i p r
-    later-out zero p r h = absurd (omega arith)
-    later-out (suc i) p r h = band-out law (fit .law-known) Q p r
 
     -- one scan more
     module _ {i : ℕ} {scratch scratch′ keys keys′ : List ℕ} {rs ds : List (List ℕ)} (later : 0 < i)
-        (rates-at : (p : ℕ) → p < Q → (q : ℕ) → q < Q → getD (getD rs p []) q 0 ≡ getD rates (Q + (i - 1) * (Q * Q) + p * Q + q) 0)
-        (distortions-at : (p : ℕ) → p < Q → (q : ℕ) → q < Q → getD (getD ds p []) q 0 ≡ getD distortions (Q + (i - 1) * (Q * Q) + p * Q + q) 0)
-        (stepped : Stepped rule law Q (i * Q) rs ds keys keys′ scratch scratch′) where
-      same : (j p : ℕ) → suc i ≤ j → choice Q scratch j p ≡ choice Q scratch′ j p
-      same j p h = sym (stepped .above (j * Q + p) (omega (arith, part Q {j = i} {m = j} h)))
+        (rates-at : (p : ℕ) → p < t .Q → (q : ℕ) → q < t .Q → getD (getD rs p []) q 0 ≡ getD (t .rates) (t .Q + (i - 1) * (t .Q * t .Q) + p * t .Q + q) 0)
+        (distortions-at : (p : ℕ) → p < t .Q → (q : ℕ) → q < t .Q → getD (getD ds p []) q 0 ≡ getD (t .distortions) (t .Q + (i - 1) * (t .Q * t .Q) + p * t .Q + q) 0)
+        (stepped : Stepped rule (t .law) (t .Q) i rs ds keys keys′ scratch scratch′) where
+      same : (j p : ℕ) → suc i ≤ j → p < t .Q → choice (t .Q) scratch j p ≡ choice (t .Q) scratch′ j p
+      same j p h l = sym (stepped .others j p l (λ e. omega arith))
 
-      row-choice : (p : ℕ) → p < Q → Chosen steps step-cost i p (λ q. getD keys q 0) (getD keys′ p 0) (choice Q scratch′ i p)
-      row-choice p h = chosen-by (candidate rule (getD rs p []) (getD ds p []) keys) (λ q. getD keys q 0) (λ r. later-in i p r later)
-          (λ r. later-out i p r later) is (stepped .best p h)
+      row-choice : (p : ℕ) → p < t .Q → BestChoice steps step-cost i p (λ q. getD keys q 0) (getD keys′ p 0) (choice (t .Q) scratch′ i p)
+      row-choice p h = chosen-by (candidate rule (getD rs p []) (getD ds p []) keys) (λ q. getD keys q 0) is
+          (best-of-same (λ q m. (m .0, follows-later (t .law) i p q later (m .1))) (λ q m. (m .0, later-follows (t .law) i p q later (m .1))) (stepped .best p h))
         where
-          is : (r : ℕ) → band-from law p ≤ r → r < band-to law p Q →
-              candidate rule (getD rs p []) (getD ds p []) keys r ≡ price-of rule (rate-at T i p r) (distortion-at T i p r) + getD keys r 0
-          is r f t =
-              let o = later-out i p r later f t in
-              let e = later-cell Q i p r (λ z. omega arith) in
-              rw (rates-at p h r (o .0), distortions-at p h r (o .0), e)
+          is : (r : ℕ) → r < t .Q → candidate rule (getD rs p []) (getD ds p []) keys r ≡ priced-at i p r + getD keys r 0
+          is r l =
+              let e = later-cell (t .Q) i p r (λ z. omega arith) in
+              rw (rates-at p h r l, distortions-at p h r l, e)
 
       pub done-more : {i′ : ℕ} → suc i′ ≡ i → Done i scratch keys → Done i′ scratch′ keys′
       done-more {i′} e d = record {
@@ -149,36 +140,32 @@ module _ (N Q law : ℕ) (rates distortions : List ℕ) (rule : Rule) where
       }
 
     -- scan 0, and the answer
-    module _ {scratch keys : List ℕ} {v q : ℕ} (rs ds : List ℕ) (d : Done 0 scratch keys) (some-room : 0 < length scratch)
-        (rates-at : (r : ℕ) → r < Q → getD rs r 0 ≡ getD rates (0 + r) 0)
-        (distortions-at : (r : ℕ) → r < Q → getD ds r 0 ≡ getD distortions (0 + r) 0)
-        (best : BestOf (candidate rule rs ds keys) 0 Q v q) where
-      first-same : (j p : ℕ) → 1 ≤ j → choice Q scratch j p ≡ choice Q (set scratch 0 q) j p
-      first-same j p h =
-          sym (getD-set-other scratch 0 (j * Q + p) q 0 (λ e. omega (arith, fit .some-settings, mul-le-mul-right {m = 1} {n = j} Q h)))
+    module _ {scratch scratch′ keys : List ℕ} {v q : ℕ} (rs ds : List ℕ) (d : Done 0 scratch keys) (stored : ChoiceStored (t .Q) 0 0 q scratch scratch′)
+        (rates-at : (r : ℕ) → r < t .Q → getD rs r 0 ≡ getD (t .rates) (0 + r) 0)
+        (distortions-at : (r : ℕ) → r < t .Q → getD ds r 0 ≡ getD (t .distortions) (0 + r) 0)
+        (best : BestOf (candidate rule rs ds keys) 0 (t .Q) v q) where
+      first-same : (j p : ℕ) → 1 ≤ j → p < t .Q → choice (t .Q) scratch j p ≡ choice (t .Q) scratch′ j p
+      first-same j p h l = sym (stored .others j p l (λ e z. omega arith))
 
-      first-row : Row steps step-cost 1 (suc (d .left)) 0 (choice Q (set scratch 0 q)) (λ p. v)
+      first-row : Row steps step-cost 1 (suc (d .left)) 0 (choice (t .Q) scratch′) (λ p. v)
       first-row =
           row-step steps step-cost (below (suc (d .left)) 0 (omega (arith, d .all))) (row-frame steps step-cost first-same (d .row)) only
         where
-          at-zero : choice Q (set scratch 0 q) 0 0 ≡ q
-          at-zero = let e : 0 * Q + 0 ≡ 0 = omega arith in rw e (getD-set-same scratch 0 q 0 some-room)
+          is : (r : ℕ) → r < t .Q → candidate rule rs ds keys r ≡ priced-at 0 0 r + getD keys r 0
+          is r l = let e : 0 + r ≡ r = omega arith in rw (rates-at r l, distortions-at r l, e)
 
-          is : (r : ℕ) → 0 ≤ r → r < Q → candidate rule rs ds keys r ≡ price-of rule (rate-at T 0 0 r) (distortion-at T 0 0 r) + getD keys r 0
-          is r f t = let e : 0 + r ≡ r = omega arith in rw (rates-at r t, distortions-at r t, e)
-
-          only : (p : ℕ) → p < 1 → Chosen steps step-cost 0 p (λ r. getD keys r 0) v (choice Q (set scratch 0 q) 0 p)
+          only : (p : ℕ) → p < 1 → BestChoice steps step-cost 0 p (λ r. getD keys r 0) v (choice (t .Q) scratch′ 0 p)
           only p h =
               let z : p ≡ 0 = omega arith in
-              rw (z, at-zero) (chosen-by (candidate rule rs ds keys) (λ r. getD keys r 0) (λ r l m. (omega arith, l)) (λ r f t. (t, tt)) is best)
+              rw (z, stored .here) (chosen-by (candidate rule rs ds keys) (λ r. getD keys r 0) is (all-best (candidate rule rs ds keys) best))
 
-      pub pass-none : ltb v no-way ≡ false → NoneAllowed (asked N Q law rates distortions (rule .ceiling))
-      pass-none e t a = first-row .dead 0 (omega arith) (omega (arith, ltb-false v no-way e, best .capped)) t (omega (arith, a .0, d .all), a .1)
+      pub pass-none : ltb v no-way ≡ false → NoneAllowed (pass-problem (rule .ceiling) t)
+      pass-none e s a = first-row .dead 0 (omega arith) (omega (arith, ltb-false v no-way e, best .capped)) s (omega (arith, a .0, d .all), a .1)
 
-      pub pass-some : ltb v no-way ≡ true → Least (asked N Q law rates distortions (rule .ceiling) .allowed)
-          (weighed (asked N Q law rates distortions (rule .ceiling)) rule) (chosen Q N (set scratch 0 q))
+      pub pass-some : ltb v no-way ≡ true → Least (pass-problem (rule .ceiling) t .allowed)
+          (weighed (pass-problem (rule .ceiling) t) rule) (chosen (t .Q) (t .N) scratch′)
       pass-some e =
-          let n : suc (d .left) ≡ N = omega (arith, d .all) in
-          let l = subst (λ (m : ℕ). LeastOn steps step-cost m 0 0 (walk (choice Q (set scratch 0 q)) m 0 0)) n
+          let n : suc (d .left) ≡ t .N = omega (arith, d .all) in
+          let l = subst (λ (m : ℕ). LeastOn steps step-cost m 0 0 (walk (choice (t .Q) scratch′) m 0 0)) n
           (first-row .live 0 (omega arith) (ltb-true v no-way e)) in
-          record { one = l .one; ahead = λ t a. rw (← (cost-total 0 0 (chosen Q N (set scratch 0 q))), ← (cost-total 0 0 t)) (l .ahead t a) }
+          record { one = l .one; ahead = λ s a. rw (← (cost-total 0 0 (chosen (t .Q) (t .N) scratch′)), ← (cost-total 0 0 s)) (l .ahead s a) }

@@ -10,14 +10,16 @@ use Rattle.criteria.specs.Order.{lower, tie}
 use Rattle.criteria.proofs.Order.{then-le}
 use Rattle.tables.specs.Series.{Series, Kept, total}
 use Rattle.least.specs.Row.{no-way}
-use Rattle.trellis.specs.Chosen.{walk}
+use Rattle.trellis.specs.Choices.{walk}
 use Rattle.trellis.proofs.Onward.{Onward, LeastOn, Prefer, least-end, least-step}
 
--- choices of earlier scans play no part
-pub walk-same : (ch ch′ : ℕ → ℕ → ℕ) (n i p : ℕ) → ((j p : ℕ) → i ≤ j → ch j p ≡ ch′ j p) → walk ch n i p ≡ walk ch′ n i p
-walk-same ch ch′ zero i p e = refl
-walk-same ch ch′ (suc n) i p e =
-    rw (← (e i p (omega arith))) (ap (λ (s : List ℕ). ch i p ∷ s) (walk-same ch ch′ n (suc i) (ch i p) (λ j p h. e j p (omega arith))))
+-- choices of earlier scans, and those after no setting, play no part
+pub walk-same : (S : Series) (ch ch′ : ℕ → ℕ → ℕ) (n i p : ℕ) → p < S .settings → Kept S i p (walk ch n i p) →
+    ((j r : ℕ) → i ≤ j → r < S .settings → ch j r ≡ ch′ j r) → walk ch n i p ≡ walk ch′ n i p
+walk-same S ch ch′ zero i p h k e = refl
+walk-same S ch ch′ (suc n) i p h k e =
+    rw (← (e i p (omega arith) h))
+    (ap (λ (s : List ℕ). ch i p ∷ s) (walk-same S ch ch′ n (suc i) (ch i p) (k .0) (k .2) (λ j r l m. e j r (omega arith) m)))
 
 module _ (S : Series) (f : ℕ → ℕ → ℕ → ℕ) where
   -- of the m settings that may stand before scan i (before scan 0 one stands for none), with n scans to the end
@@ -37,7 +39,7 @@ module _ (S : Series) (f : ℕ → ℕ → ℕ → ℕ) where
   }
 
   -- v is the least of what the settings that may follow p cost with what lies ahead of them, and q the lowest that attains it
-  pub record Chosen (i p : ℕ) (k : ℕ → ℕ) (v q : ℕ) : Type 0 where
+  pub record BestChoice (i p : ℕ) (k : ℕ → ℕ) (v q : ℕ) : Type 0 where
     pub capped : v ≤ no-way
     pub least : (r : ℕ) → r < S .settings → S .may i p r → v ≤ f i p r + k r
     pub found : v < no-way → (q < S .settings) × S .may i p q × (v ≡ f i p q + k q)
@@ -49,7 +51,7 @@ module _ (S : Series) (f : ℕ → ℕ → ℕ → ℕ) where
 
   -- the row of a scan, from the row of the next
   pub row-step : {m n i : ℕ} {ch : ℕ → ℕ → ℕ} {k v : ℕ → ℕ} → Below (suc n) i → Row (S .settings) n (suc i) ch k →
-      ((p : ℕ) → p < m → Chosen i p k (v p) (ch i p)) → Row m (suc n) i ch v
+      ((p : ℕ) → p < m → BestChoice i p k (v p) (ch i p)) → Row m (suc n) i ch v
   row-step {m} {n} {i} {ch} {k} {v} below row c = record {
     capped = λ p h. c p h .capped;
     dead = λ p h e t o. none p h e t (o .0) (o .1);
@@ -97,10 +99,14 @@ module _ (S : Series) (f : ℕ → ℕ → ℕ → ℕ) where
           prefer x z w (no b) (no d) = tie (omega (arith, c p h .least q l y)) (omega arith)
 
   -- a row stands while choices of earlier scans are written
-  pub row-frame : {m n i : ℕ} {ch ch′ : ℕ → ℕ → ℕ} {k : ℕ → ℕ} → ((j p : ℕ) → i ≤ j → ch j p ≡ ch′ j p) → Row m n i ch k → Row m n i ch′ k
-  row-frame {m} {n} {i} {ch} {ch′} same row = record {
+  pub row-frame : {n i : ℕ} {ch ch′ : ℕ → ℕ → ℕ} {k : ℕ → ℕ} → ((j r : ℕ) → i ≤ j → r < S .settings → ch j r ≡ ch′ j r) →
+      Row (S .settings) n i ch k → Row (S .settings) n i ch′ k
+  row-frame {n} {i} {ch} {ch′} {k} same row = record {
     capped = row .capped;
     dead = row .dead;
-    live = λ p h e. rw (walk-same ch ch′ n i p same) at (row .live p h e);
-    cost = λ p h e. rw (walk-same ch ch′ n i p same) at (row .cost p h e);
+    live = λ p h e. rw (frame p h e) at (row .live p h e);
+    cost = λ p h e. rw (frame p h e) at (row .cost p h e);
   }
+    where
+      frame : (p : ℕ) → p < S .settings → k p < no-way → walk ch n i p ≡ walk ch′ n i p
+      frame p h e = walk-same S ch ch′ n i p h (row .live p h e .one .1) same

@@ -6,7 +6,7 @@ use native.Mathlib.Decide.{ℕ-discrete}
 use native.Mathlib.Omega.{arith}
 use lib.ListN.{length, getD, set, length-set}
 use lib.Seq.{getD-set-same, getD-set-other}
-use Rattle.trellis.specs.Step.{Sixteen}
+use Rattle.trellis.specs.Square.{Sixteen}
 
 -- one row more
 module _ (square : List (List ℕ)) (p : ℕ) (row : List ℕ) (s : Sixteen square) (h : p < 16) where

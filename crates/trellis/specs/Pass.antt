@@ -6,10 +6,10 @@ use Prim.Native.Nat.{ℕ, _+_, _*_, _≤_}
 use lib.ListN.{length, getD}
 use Rattle.criteria.specs.Choice.{Problem, NoneAllowed}
 use Rattle.tables.specs.Series.{Series, problem}
-use Rattle.tables.specs.Tables.{table, series}
+use Rattle.tables.specs.Tables.{Table, series, scratch-need}
 use Rattle.keys.specs.OneKey.{Least}
 use Rattle.least.specs.declared.Rule.{Rule}
-use Rattle.trellis.specs.Chosen.{chosen}
+use Rattle.trellis.specs.Choices.{chosen}
 
 -- a series' steps that stay under a ceiling
 abbrev pub under : ℕ → Series → Series
@@ -23,16 +23,17 @@ under X S = record {
 }
 
 -- the sequences that a pass looks at
-abbrev pub asked : (N Q law : ℕ) (rates distortions : List ℕ) → ℕ → Problem
-asked N Q law rates distortions X = problem (under X (series (table N Q law rates distortions)))
+abbrev pub pass-problem : ℕ → Table → Problem
+pass-problem X t = problem (under X (series t))
 
 -- the one number that a pass compares
 abbrev pub weighed : Problem → Rule → List ℕ → ℕ
 weighed P rule t = rule .a * P .distortion t + rule .b * P .rate t
 
--- Whether there is a sequence; if so, the choices lead along the least by weight, and of equals the first. Scratch past N × Q is as it was.
-pub record Passed (P : Problem) (N Q : ℕ) (rule : Rule) (before after : List ℕ) (found : Bool) : Type 0 where
+-- Whether there is a sequence; if so, the choices lead along the least by weight, and of equals the first. Beyond the call's scratch every
+-- byte is as it was.
+pub record PassOf (P : Problem) (N Q : ℕ) (rule : Rule) (before after : List ℕ) (found : Bool) : Type 0 where
   pub none : found ≡ false → NoneAllowed P
   pub some : found ≡ true → Least (P .allowed) (weighed P rule) (chosen Q N after)
   pub long : length after ≡ length before
-  pub rest : (i : ℕ) → N * Q ≤ i → getD after i 0 ≡ getD before i 0
+  pub rest : (i : ℕ) → scratch-need N Q ≤ i → getD after i 0 ≡ getD before i 0

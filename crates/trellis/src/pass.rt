@@ -1,20 +1,25 @@
 // One pass, from the last scan to the first.
-use crate::band;
+use crate::choices::store;
 use crate::square::row_into;
 use crate::square::square_into;
 use least::NO_WAY;
 use least::Rule;
 use least::pick;
+use tables::law::all;
+use tables::law::run;
 ghost use mathlib.Core.Path.{_≡_};
 ghost use mathlib.Core.List.{[]};
-ghost use Prim.Native.Nat.{ℕ, _+_, _*_, _≤_, _<_};
+ghost use Prim.Native.Nat.{ℕ, suc, _≤_, _<_};
 ghost use lib.ListN.{getD, length};
+ghost use Rattle.tables.specs.Limits.{«most-scans», «most-settings»};
+ghost use Rattle.tables.specs.Law.{«law-of»};
+ghost use Rattle.tables.specs.Tables.{table, «scratch-need»};
+ghost use Rattle.checks.specs.Fit.{Fit};
 ghost use Rattle.least.specs.Row.{Ready, Light};
 ghost use Rattle.trellis.specs.Stepped.{Stepped};
-ghost use Rattle.checks.specs.Fit.{Fit};
-ghost use Rattle.trellis.specs.Pass.{Passed, asked};
+ghost use Rattle.trellis.specs.Pass.{PassOf, «pass-problem»};
 
-// One scan, from its squares: what lies ahead of each setting before it, and the choices, stored from `to` on.
+// One scan, from its squares: what lies ahead of each setting before it, and the choices.
 fn step(
     rates: [[u32; 16]; 16],
     distortions: [[u32; 16]; 16],
@@ -22,28 +27,29 @@ fn step(
     law: u64,
     keys: &mut [u64; 16],
     scratch: &mut [u8],
-    to: usize,
-    k: usize,
+    scan: usize,
+    settings: usize,
 )
-    requires { ⌜ (k ≤ 16) × ((to + k ≤ length (now scratch)) × (length (now keys) ≡ 16)) ⌝ }
+    requires { ⌜ (settings ≤ most-settings) × ((scan < most-scans) × ((scratch-need (suc scan) settings ≤ length (now scratch)) × (length (now keys) ≡ 16))) ⌝ }
     requires { ⌜ Light rule ⌝ }
-    requires { ⌜ ((p : ℕ) → p < k → Ready k (getD rates p []) (getD distortions p []) (now keys)) ⌝ }
-    ensures { λ _. ⌜ Stepped rule law k to rates distortions (now (keys .entry)) (now (keys .exit)) (now (scratch .entry)) (now (scratch .exit)) ⌝ }
+    requires { ⌜ ((p : ℕ) → p < settings → Ready settings (getD rates p []) (getD distortions p []) (now keys)) ⌝ }
+    ensures { λ _. ⌜ Stepped rule (law-of law) settings scan rates distortions (now (keys .entry)) (now (keys .exit)) (now (scratch .entry)) (now (scratch .exit)) ⌝ }
 {
     let ahead = *keys;
-    let mut room = [0u64; 16];
-    for p in 0..k {
+    let mut row = [0u64; 16];
+    for p in 0..settings {
+        let span = run(law, p, settings);
         let best = pick(
-            &mut room,
+            &mut row,
             &rates[p],
             &distortions[p],
             rule,
             &ahead,
-            band::from(law, p),
-            band::to(law, p, k),
+            span.from,
+            span.to,
         );
         keys[p] = best.key.0;
-        scratch[to + p] = best.first as u8;
+        store(scratch, settings, scan, p, best.first);
     }
 }
 
@@ -57,9 +63,9 @@ pub fn pass(
     distortions: &[u32],
     scratch: &mut [u8],
 ) -> bool
-    requires { ⌜ Fit scans settings law (now rates) (now distortions) (length (now scratch)) ⌝ }
+    requires { ⌜ Fit scans settings (now rates) (now distortions) (length (now scratch)) ⌝ }
     requires { ⌜ Light rule ⌝ }
-    ensures { λ r. ⌜ Passed (asked scans settings law (now (rates .entry)) (now (distortions .entry)) (rule .ceiling)) scans settings rule (now (scratch .entry)) (now (scratch .exit)) r ⌝ }
+    ensures { λ r. ⌜ PassOf (pass-problem (rule .ceiling) (table scans settings law (now (rates .entry)) (now (distortions .entry)))) scans settings rule (now (scratch .entry)) (now (scratch .exit)) r ⌝ }
 {
     let mut keys = [0u64; 16];
     let mut rate_square = [[0u32; 16]; 16];
@@ -77,27 +83,27 @@ pub fn pass(
             law,
             &mut keys,
             scratch,
-            i * settings,
+            i,
             settings,
         );
         i -= 1;
     }
-    let mut room = [0u64; 16];
+    let mut row = [0u64; 16];
     let mut first_rates = [0u32; 16];
     let mut first_distortions = [0u32; 16];
     row_into(&mut first_rates, rates, 0, settings);
     row_into(&mut first_distortions, distortions, 0, settings);
-    // Nothing stands before scan 0: as under law 0, every setting may stand there.
-    let all = band::to(0, 0, settings);
+    // Nothing stands before scan 0: every setting may stand there.
+    let span = all(settings);
     let best = pick(
-        &mut room,
+        &mut row,
         &first_rates,
         &first_distortions,
         rule,
         &keys,
-        0,
-        all,
+        span.from,
+        span.to,
     );
-    scratch[0] = best.first as u8;
+    store(scratch, settings, 0, 0, best.first);
     best.key.0 < NO_WAY
 }

@@ -3,7 +3,7 @@ ghost use mathlib.Core.Path.{_≡_};
 ghost use mathlib.Core.List.{[]};
 ghost use Prim.Native.Nat.{ℕ, _+_, _*_, _≤_, _<_};
 ghost use lib.ListN.{getD, length};
-ghost use Rattle.trellis.specs.Step.{Sixteen};
+ghost use Rattle.trellis.specs.Square.{Sixteen};
 
 // A row of k cells from `from` on. Where the table goes on so far, sixteen are copied: a copy of known length is quicker.
 pub fn row_into(row: &mut [u32; 16], cells: &[u32], from: usize, k: usize)

@@ -8,8 +8,8 @@ use lib.ListN.{getD, length, drop}
 use lib.Seq.{drop-cons}
 use Rattle.tables.specs.Series.{Series, Kept, total, largest, problem}
 use Rattle.tables.specs.Limits.{most-total}
-use Rattle.tables.proofs.Totals.{Small, rate-small, distortion-small}
-use Rattle.trellis.specs.Chosen.{walk}
+use Rattle.tables.proofs.Bounds.{Bounded, rate-small, distortion-small}
+use Rattle.trellis.specs.Choices.{walk}
 use Rattle.walk.specs.Walked.{TotalsOf}
 use Rattle.walk.specs.declared.Totals.{Totals}
 
@@ -58,7 +58,7 @@ along-more a r d h = record {
 }
 
 -- with a scan more nothing passes the bound of document 01, "Both sums are at most 1,073,740,800."
-pub along-small : {S : Series} → Small S → {whole : List ℕ} → problem S .allowed whole → {t : Totals} {i p q : ℕ} {s : List ℕ} →
+pub along-small : {S : Series} → Bounded S → {whole : List ℕ} → problem S .allowed whole → {t : Totals} {i p q : ℕ} {s : List ℕ} →
     Along S whole t i p (q ∷ s) → (t .rate .0 + S .rate i p q ≤ most-total) × (t .distortion .0 + S .distortion i p q ≤ most-total)
 along-small {S} small {whole} ok a =
     (omega (arith, a .rate, rate-small S small whole ok), omega (arith, a .distortion, distortion-small S small whole ok))

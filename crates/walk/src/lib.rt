@@ -1,13 +1,17 @@
 // Along the choices: what the sequence comes to, its settings handed over, and scratch wiped.
+use bytes::cast::cell_to_number;
 use keys::cost::Dist;
 use keys::cost::Rate;
 use tables::cells::number;
+use tables::cells::scratch_need;
+use trellis::choices::read;
 ghost use mathlib.Core.Path.{_≡_};
 ghost use mathlib.Core.List.{_++_};
-ghost use Prim.Native.Nat.{ℕ, _+_, _*_, _≤_, _<_, _^_, max};
+ghost use Prim.Native.Nat.{ℕ, _+_, _≤_, _<_, _^_, max};
 ghost use lib.ListN.{getD, length, drop, replicate};
-ghost use Rattle.tables.specs.Tables.{table, planning};
-ghost use Rattle.trellis.specs.Chosen.{chosen};
+ghost use Rattle.tables.specs.Limits.{«most-scans», «most-settings»};
+ghost use Rattle.tables.specs.Tables.{table, planning, «scratch-need»};
+ghost use Rattle.trellis.specs.Choices.{chosen};
 ghost use Rattle.checks.specs.Fit.{Fit};
 ghost use Rattle.walk.specs.Walked.{TotalsOf};
 
@@ -22,19 +26,13 @@ pub struct Totals {
 fn rate_of(cell: u32) -> Rate
     ensures { λ r. ⌜ r .0 ≡ cell ⌝ }
 {
-    Rate(cell as u64)
+    Rate(cell_to_number(cell))
 }
 
 fn distortion_of(cell: u32) -> Dist
     ensures { λ r. ⌜ r .0 ≡ cell ⌝ }
 {
-    Dist(cell as u64)
-}
-
-fn narrow(x: u8) -> usize
-    ensures { λ r. ⌜ (r ≡ x) × (r < 256) ⌝ }
-{
-    x as usize
+    Dist(cell_to_number(cell))
 }
 
 fn larger(a: u64, b: u64) -> u64
@@ -64,7 +62,7 @@ pub fn total_up(
     distortions: &[u32],
     scratch: &[u8],
 ) -> Totals
-    requires { ⌜ Fit scans settings law (now rates) (now distortions) (length (now scratch)) ⌝ }
+    requires { ⌜ Fit scans settings (now rates) (now distortions) (length (now scratch)) ⌝ }
     requires { ⌜ planning (table scans settings law (now rates) (now distortions)) .allowed (chosen settings scans (now scratch)) ⌝ }
     ensures { λ r. ⌜ TotalsOf (planning (table scans settings law (now (rates .entry)) (now (distortions .entry)))) (chosen settings scans (now (scratch .entry))) r ⌝ }
 {
@@ -75,7 +73,7 @@ pub fn total_up(
     };
     let mut p: usize = 0;
     for i in 0..scans {
-        let q = narrow(scratch[i * settings + p]);
+        let q = read(scratch, settings, i, p);
         let at = number(settings as u64, i as u64, p as u64, q as u64) as usize;
         t = with_scan(t, rate_of(rates[at]), distortion_of(distortions[at]));
         p = q;
@@ -85,24 +83,25 @@ pub fn total_up(
 
 // The chosen sequence goes to the first bytes of the plan.
 pub fn hand_over(scans: usize, settings: usize, scratch: &[u8], plan: &mut [u8])
-    requires { ⌜ (settings ≤ 16) × ((scans * settings ≤ length (now scratch)) × (scans ≤ length (now plan))) ⌝ }
+    requires { ⌜ (scans ≤ most-scans) × ((settings ≤ most-settings) × ((scratch-need scans settings ≤ length (now scratch)) × (scans ≤ length (now plan)))) ⌝ }
     requires { ⌜ ((i : ℕ) → i < scans → getD (chosen settings scans (now scratch)) i 0 < settings) ⌝ }
     ensures { λ _. ⌜ now (plan .exit) ≡ chosen settings scans (now (scratch .entry)) ++ drop scans (now (plan .entry)) ⌝ }
 {
     let mut p: usize = 0;
     for scan in 0..scans {
-        let q = scratch[scan * settings + p];
-        plan[scan] = q;
-        p = narrow(q);
+        let q = read(scratch, settings, scan, p);
+        plan[scan] = q as u8;
+        p = q;
     }
 }
 
-// The first n bytes become zero.
-pub fn wipe(scratch: &mut [u8], n: usize)
-    requires { ⌜ n ≤ length (now scratch) ⌝ }
-    ensures { λ _. ⌜ now (scratch .exit) ≡ replicate n 0 ++ drop n (now (scratch .entry)) ⌝ }
+// The scratch of a call becomes zero.
+pub fn wipe(scratch: &mut [u8], scans: usize, settings: usize)
+    requires { ⌜ (scans ≤ most-scans) × ((settings ≤ most-settings) × (scratch-need scans settings ≤ length (now scratch))) ⌝ }
+    ensures { λ _. ⌜ now (scratch .exit) ≡ replicate (scratch-need scans settings) 0 ++ drop (scratch-need scans settings) (now (scratch .entry)) ⌝ }
 {
-    for i in 0..n {
+    let need = scratch_need(scans as u64, settings as u64) as usize;
+    for i in 0..need {
         scratch[i] = 0;
     }
 }

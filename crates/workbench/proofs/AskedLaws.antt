@@ -12,7 +12,7 @@ use lib.Seq.{take-all}
 use borrow.Author.Tests.{eqb-true, eq-eqb, ltb-true, ltb-false, leb-true}
 use Rattle.tables.specs.declared.refusal.Refusal.the-variants as refusal
 use Rattle.tables.specs.Tables.{cells}
-use Rattle.checks.specs.Checks.{first-refusal, or-later}
+use Rattle.checks.specs.Checks.{when, or-else}
 use Rattle.checks.specs.Planning.{scans-out, settings-out}
 use Rattle.tables.specs.Law.{law-out}
 use Rattle.laws.proofs.Tests.{never}
@@ -20,7 +20,7 @@ use Rattle.reading.specs.Text.{Open, between, digits, other, words, words-from,
 use Rattle.reading.specs.Fed.{Fed, so-far, stopped, as-words, taken-of}
 use Rattle.reading.specs.declared.State.{State}
 use Rattle.reading.proofs.Text.{ends-as-separator}
-use Rattle.workbench.specs.Asked.{Asked, bad-input, too-large, to-plan, asked, first, add, most-cells, range-checks, with-cells, with-rest, with-four, in-range}
+use Rattle.workbench.specs.Asked.{Asked, bad-input, too-large, to-plan, asked, first, add, most-cells, range-refusal, with-cells, with-rest, with-four, in-range}
 use Rattle.workbench.specs.Done.{settles, Decided}
 
 -- none of the words from here on can be taken for a number
@@ -44,7 +44,7 @@ first-barred (suc k) (x ∷ l) ws h b = ap (λ (o : Option (List ℕ)). add x o)
 -- what the first four numbers settle, where a is asked if they are in range and the table is not too large
 abbrev pub settled : List ℕ → Asked → Asked
 settled n a =
-    in-range (first-refusal (range-checks (getD n 0 0) (getD n 1 0) (getD n 2 0))) (cond (ltb most-cells (cells (getD n 0 0)
+    in-range (range-refusal (getD n 0 0) (getD n 1 0) (getD n 2 0)) (cond (ltb most-cells (cells (getD n 0 0)
     (getD n 1 0))) too-large a)
 
 abbrev pub rest-asked : List ℕ → List (Option ℕ) → Asked
@@ -77,7 +77,7 @@ too-few n t ws h b =
 
 -- what is asked beyond the first four matters only where the table is not too large
 pub settled-same : (n : List ℕ) (a b : Asked) → (cells (getD n 0 0) (getD n 1 0) ≤ most-cells → a ≡ b) → settled n a ≡ settled n b
-settled-same n a b f = ap (λ (x : Asked). in-range (first-refusal (range-checks (getD n 0 0) (getD n 1 0) (getD n 2 0))) x) (by-size _ (λ e. f
+settled-same n a b f = ap (λ (x : Asked). in-range (range-refusal (getD n 0 0) (getD n 1 0) (getD n 2 0)) x) (by-size _ (λ e. f
     (ltb-false _ _ e)))
   where
     by-size : (large : Bool) → (large ≡ false → a ≡ b) → cond large too-large a ≡ cond large too-large b
@@ -89,8 +89,8 @@ pub settled-whatever : (n : List ℕ) (a b : Asked) → settles n ≡ true → s
 settled-whatever n a b e = by-tests (scans-out (getD n 0 0)) (settings-out (getD n 1 0)) (law-out (getD n 2 0)) _ e
   where
     by-tests : (p q r l : Bool) → (p || q || r || l) ≡ true →
-        in-range (or-later p refusal.Scans (or-later q refusal.Settings (or-later r refusal.StepLaw none))) (cond l too-large a)
-        ≡ in-range (or-later p refusal.Scans (or-later q refusal.Settings (or-later r refusal.StepLaw none))) (cond l too-large b)
+        in-range (or-else (when p refusal.Scans) (or-else (when q refusal.Settings) (or-else (when r refusal.StepLaw) none))) (cond l too-large a)
+        ≡ in-range (or-else (when p refusal.Scans) (or-else (when q refusal.Settings) (or-else (when r refusal.StepLaw) none))) (cond l too-large b)
     by-tests true q r l e = refl
     by-tests false true r l e = refl
     by-tests false false true l e = refl

@@ -12,7 +12,8 @@ use borrow.Author.Tests.{eqb-true, eqb-false, le-ltb, lt-ltb}
 use Rattle.tables.specs.declared.refusal.Refusal.{Refusal}
 use Rattle.tables.specs.declared.refusal.Refusal.the-variants.{Scans, Settings, StepLaw}
 use Rattle.tables.specs.Tables.{cells}
-use Rattle.checks.specs.Checks.{or-later}
+use Rattle.checks.proofs.CheckLaws.{none-when, none-else}
+use Rattle.checks.specs.Checks.{when, or-else}
 use Rattle.checks.specs.Planning.{scans-out, settings-out}
 use Rattle.tables.specs.Law.{law-out}
 use Rattle.laws.proofs.Tests.{never}
@@ -20,46 +21,33 @@ use Rattle.reading.specs.Fed.{as-words, taken-of}
 use Rattle.reading.specs.declared.State.{State}
 use Rattle.workbench.specs.Asked.{Asked, bad-input, out-of-range, too-large, to-plan, asked, most-cells, in-range}
 use Rattle.workbench.specs.Done.{settles}
-use Rattle.workbench.specs.Parts.{Fits, Heads, Asks, plan-asked, scans, settings, law, budget, rates, distortions, range-refusal}
+use Rattle.workbench.specs.Parts.{Fits, Heads, Asks, plan-asked, scans, settings, law, budget, rates, distortions, out-by}
 use Rattle.workbench.specs.declared.judge.Head.{Head}
 use Rattle.workbench.specs.declared.judge.Head.the-variants as head
 use Rattle.workbench.proofs.AskedLaws.{settled, rest-asked, by-words, four-given, too-few, rest-other, rest-cells, all-taken, not-taken}
 
--- a test of a number that was read, and what it answered
-pub tested : (f : ℕ → Bool) {x y : ℕ} {r b : Bool} → r ≡ f x → x ≡ y → r ≡ b → f y ≡ b
-tested f e x r = sym (ap f x) ∙ sym e ∙ r
-
-pub refuses-scans : (n : List ℕ) → scans-out (scans n) ≡ true → Heads n (head.Refused Scans)
-refuses-scans n a = rw a
-
-pub refuses-settings : (n : List ℕ) → scans-out (scans n) ≡ false → settings-out (settings n) ≡ true → Heads n (head.Refused Settings)
-refuses-settings n a b = rw (a, b)
-
-pub refuses-law : (n : List ℕ) → scans-out (scans n) ≡ false → settings-out (settings n) ≡ false → law-out (law n) ≡ true →
-    Heads n (head.Refused StepLaw)
-refuses-law n a b c = rw (a, b, c)
-
-pub passes : (n : List ℕ) → scans-out (scans n) ≡ false → settings-out (settings n) ≡ false → law-out (law n) ≡ false → range-refusal n ≡ none
-passes n a b c = rw (a, b, c)
+-- where the ranges pass, N is in its range
+pub scans-inside : (n : List ℕ) → out-by n ≡ none → scans-out (scans n) ≡ false
+scans-inside n e = none-when (scans-out (scans n)) Scans (none-else (when (scans-out (scans n)) Scans) _ e .0)
 
 -- a table that is planned is not too large
 not-large : {n : List ℕ} {k : ℕ} → Fits n k → ltb most-cells (cells (scans n) (settings n)) ≡ false
 not-large {n} {k} f = let c = f .counted in let m = f .few in le-ltb most-cells (cells (scans n) (settings n)) (omega arith)
 
 -- whether they settle what is asked
-pub settles-refused : (n : List ℕ) (r : Refusal) → range-refusal n ≡ some r → settles n ≡ true
+pub settles-refused : (n : List ℕ) (r : Refusal) → out-by n ≡ some r → settles n ≡ true
 settles-refused n r e = by-tests (scans-out (scans n)) (settings-out (settings n)) (law-out (law n)) _ e
   where
-    by-tests : (p q s l : Bool) → or-later p Scans (or-later q Settings (or-later s StepLaw none)) ≡ some r → (p || q || s || l) ≡ true
+    by-tests : (p q s l : Bool) → or-else (when p Scans) (or-else (when q Settings) (or-else (when s StepLaw) none)) ≡ some r → (p || q || s || l) ≡ true
     by-tests true q s l e = refl
     by-tests false true s l e = refl
     by-tests false false true l e = refl
     by-tests false false false l e = never (cc)
 
-settles-by-size : (n : List ℕ) → range-refusal n ≡ none → settles n ≡ ltb most-cells (cells (scans n) (settings n))
+settles-by-size : (n : List ℕ) → out-by n ≡ none → settles n ≡ ltb most-cells (cells (scans n) (settings n))
 settles-by-size n e = by-tests (scans-out (scans n)) (settings-out (settings n)) (law-out (law n)) _ e
   where
-    by-tests : (p q s l : Bool) → or-later p Scans (or-later q Settings (or-later s StepLaw none)) ≡ none → (p || q || s || l) ≡ l
+    by-tests : (p q s l : Bool) → or-else (when p Scans) (or-else (when q Settings) (or-else (when s StepLaw) none)) ≡ none → (p || q || s || l) ≡ l
     by-tests true q s l e = never (cc)
     by-tests false true s l e = never (cc)
     by-tests false false true l e = never (cc)
@@ -96,12 +84,12 @@ module _ (n : List ℕ) (s : State) (len : length n ≡ 8196) where
       by-more true e = not-taken text n s len fed e ∙ ap (λ (t : Bool). cond t bad-input (settled n bad-input)) (le-ltb (s .taken) 4 h)
       by-more false e = let t = all-taken text n s fed e in by-words text (t .1) ∙ four-given n (s .taken) [] h (t .0)
 
-  pub refused-asked : {r : Refusal} → 4 ≤ s .taken → range-refusal n ≡ some r → Asks n s (out-of-range r)
+  pub refused-asked : {r : Refusal} → 4 ≤ s .taken → out-by n ≡ some r → Asks n s (out-of-range r)
   refused-asked h e text fed =
       four-asked h text fed
       ∙ ap (λ (o : Option Refusal). in-range o (cond (ltb most-cells (cells (scans n) (settings n))) too-large (left-asked n s))) e
 
-  pub large-asked : 4 ≤ s .taken → range-refusal n ≡ none → most-cells < cells (scans n) (settings n) → Asks n s too-large
+  pub large-asked : 4 ≤ s .taken → out-by n ≡ none → most-cells < cells (scans n) (settings n) → Asks n s too-large
   large-asked h e g text fed =
       four-asked h text fed
       ∙ ap (λ (o : Option Refusal). in-range o (cond (ltb most-cells (cells (scans n) (settings n))) too-large (left-asked n s))) e

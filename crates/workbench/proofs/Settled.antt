@@ -6,7 +6,7 @@ use lib.ListN.{take}
 use Rattle.promise.specs.declared.AverageAnswer.{AverageAnswer}
 use Rattle.promise.specs.declared.MinmaxAnswer.{MinmaxAnswer}
 use Rattle.promise.specs.Promise.{average-reply, minmax-reply}
-use Rattle.promise.proofs.Settled.{average-settled, minmax-settled}
+use Rattle.promise.proofs.Unique.{average-settled, minmax-settled}
 use Rattle.printing.specs.Lines.{ave-line, minmax-line}
 use Rattle.workbench.specs.Asked.{Asked}
 use Rattle.workbench.specs.Written.{AveLine, MinmaxLine, WrittenFor, Writes, alone-bad, alone-large, both-refused, both-planned}

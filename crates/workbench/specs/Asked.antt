@@ -6,10 +6,10 @@ use Prim.Native.Nat.{ℕ, zero, suc, _*_}
 use lib.Dec.{eqb, ltb}
 use lib.ListN.{length, getD, take, drop}
 use Rattle.tables.specs.declared.refusal.Refusal.{Refusal}
-use Rattle.tables.specs.declared.refusal.Refusal.the-variants as refusal
 use Rattle.tables.specs.Tables.{cells}
-use Rattle.checks.specs.Checks.{Check, first-refusal}
-use Rattle.checks.specs.Planning.{scans-out, settings-out}
+use Rattle.checks.specs.Checks.{first-refusal}
+use Rattle.tables.specs.Limits.{most-scans}
+use Rattle.checks.specs.Planning.{range-checks}
 use Rattle.tables.specs.Law.{law-out}
 use Rattle.reading.specs.Text.{words}
 
@@ -36,13 +36,9 @@ first (suc k) (some x ∷ ws) = add x (first k ws)
 abbrev pub most-cells : ℕ
 most-cells = 4096
 
--- "If N, Q or law is then out of range"
-abbrev pub range-checks : (N Q law : ℕ) → List Check
-range-checks N Q law =
-    record { fails = scans-out N; gives = refusal.Scans }
-    ∷ record { fails = settings-out Q; gives = refusal.Settings }
-    ∷ record { fails = law-out law; gives = refusal.StepLaw }
-    ∷ []
+-- "If N, Q or law is then out of range": the checks 1 to 3 of a planning call
+abbrev pub range-refusal : (N Q law : ℕ) → Option Refusal
+range-refusal N Q law = first-refusal (range-checks most-scans N Q (law-out law))
 
 -- "the cells are read to the end of the input. A missing or extra number .. or any other text in what is read": all words after the first
 -- four are numbers, and they are the cells of two tables
@@ -65,7 +61,7 @@ with-four (some h) ws =
     let N = getD h 0 0 in
     let Q = getD h 1 0 in
     let law = getD h 2 0 in
-    in-range (first-refusal (range-checks N Q law)) (cond (ltb most-cells (cells N Q)) too-large (with-rest N Q law (getD h 3 0) ws))
+    in-range (range-refusal N Q law) (cond (ltb most-cells (cells N Q)) too-large (with-rest N Q law (getD h 3 0) ws))
 
 unfoldable pub asked : List ℕ → Asked
 asked text = with-four (first 4 (words text)) (drop 4 (words text))

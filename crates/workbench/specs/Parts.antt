@@ -7,12 +7,11 @@ use Prim.Native.Nat.{ℕ, _+_, _≤_, _<_}
 use lib.ListN.{length, getD, take, drop}
 use Rattle.tables.specs.declared.refusal.Refusal.{Refusal}
 use Rattle.tables.specs.Tables.{cells}
-use Rattle.checks.specs.Checks.{first-refusal}
 use Rattle.checks.specs.Planning.{scans-out}
 use Rattle.printing.specs.Parts.{Put}
 use Rattle.reading.specs.Fed.{Fed}
 use Rattle.reading.specs.declared.State.{State}
-use Rattle.workbench.specs.Asked.{Asked, asked, bad-input, out-of-range, too-large, to-plan, range-checks, most-cells}
+use Rattle.workbench.specs.Asked.{Asked, asked, bad-input, out-of-range, too-large, to-plan, range-refusal, most-cells}
 use Rattle.workbench.specs.Written.{AveLine, MinmaxLine, WrittenFor}
 use Rattle.workbench.specs.declared.judge.Head.{Head}
 use Rattle.workbench.specs.declared.judge.Head.the-variants as head
@@ -32,8 +31,8 @@ law n = getD n 2 0
 abbrev pub budget : List ℕ → ℕ
 budget n = getD n 3 0
 
-abbrev pub range-refusal : List ℕ → Option Refusal
-range-refusal n = first-refusal (range-checks (scans n) (settings n) (law n))
+abbrev pub out-by : List ℕ → Option Refusal
+out-by n = range-refusal (scans n) (settings n) (law n)
 
 -- the tables, each of this many cells, after the first four numbers
 abbrev pub rates : List ℕ → ℕ → List ℕ
@@ -48,15 +47,15 @@ plan-asked n k = to-plan (scans n) (settings n) (law n) (budget n) (rates n k) (
 
 -- a table that is planned
 pub record Fits (n : List ℕ) (k : ℕ) : Type 0 where
-  pub in-range : range-refusal n ≡ none
+  pub in-range : out-by n ≡ none
   pub scans-in : scans-out (scans n) ≡ false
   pub counted : k ≡ cells (scans n) (settings n)
   pub few : k ≤ most-cells
 
 -- what the first four numbers settle
 abbrev pub Heads : List ℕ → Head → Type 0
-Heads n (head.Refused r) = range-refusal n ≡ some r
-Heads n head.TooLarge = (range-refusal n ≡ none) × (most-cells < cells (scans n) (settings n))
+Heads n (head.Refused r) = out-by n ≡ some r
+Heads n head.TooLarge = (out-by n ≡ none) × (most-cells < cells (scans n) (settings n))
 Heads n (head.Cells k) = Fits n k
 
 -- whatever text was read, this is asked; a separator has ended it

@@ -7,7 +7,7 @@ use Rattle.tables.specs.declared.refusal.Refusal.{Refusal}
 use Rattle.tables.specs.Refusals.{refused}
 use Rattle.promise.specs.declared.AverageAnswer.{AverageAnswer}
 use Rattle.promise.specs.declared.MinmaxAnswer.{MinmaxAnswer}
-use Rattle.checks.specs.Checked.{asking}
+use Rattle.checks.specs.Planning.{asking}
 use Rattle.promise.specs.Promise.{AveragePromise, MinmaxPromise, average-reply, minmax-reply}
 use Rattle.printing.specs.Lines.{ave-line, minmax-line, bad-input, too-large}
 use Rattle.workbench.specs.Asked.{Asked, asked, to-plan, out-of-range}

@@ -1,14 +1,16 @@
 // What the numbers of a text ask.
-use checks::range::law_outside;
-use checks::range::outside;
+use bytes::cast::cell_to_number;
+use checks::range::ranges;
+use checks::stage::Stage;
+use checks::stage::why;
 use reading::State;
 use tables::cells::count;
+use tables::law::unknown;
 use tables::limits::MOST_SCANS;
-use tables::limits::MOST_SETTINGS;
 use tables::refusal::Refusal;
 ghost use mathlib.Core.Path.{_≡_};
 ghost use mathlib.Core.Bool.{not, _&&_};
-ghost use Prim.Native.Nat.{_+_, _*_, _≤_, _<_, _^_};
+ghost use Prim.Native.Nat.{_+_, _*_, _≤_, _<_};
 ghost use lib.Dec.{eqb};
 ghost use lib.ListN.{length};
 ghost use Rattle.workbench.specs.Parts.{Heads, Judged};
@@ -31,29 +33,18 @@ pub enum Verdict {
     Ready(usize),
 }
 
-pub fn wide(x: u32) -> u64
-    ensures { λ r. ⌜ (r ≡ x) × (r < 2 ^ 32) ⌝ }
-{
-    x as u64
-}
-
 // The checks of N, Q and law in their order, and then the size.
 pub fn first_four(numbers: &[u32]) -> Head
     requires { ⌜ length (now numbers) ≡ 8196 ⌝ }
     ensures { λ r. ⌜ Heads (now (numbers .entry)) r ⌝ }
 {
-    let scans = wide(numbers[0]);
-    let settings = wide(numbers[1]);
-    let law = wide(numbers[2]);
-    if outside(MOST_SCANS, scans) {
-        return Head::Refused(Refusal::Scans);
-    }
-    if outside(MOST_SETTINGS, settings) {
-        return Head::Refused(Refusal::Settings);
-    }
-    if law_outside(law) {
-        return Head::Refused(Refusal::StepLaw);
-    }
+    let scans = cell_to_number(numbers[0]);
+    let settings = cell_to_number(numbers[1]);
+    let law = cell_to_number(numbers[2]);
+    let ranged = ranges(MOST_SCANS, scans, settings, unknown(law));
+    let Stage::Passed = ranged else {
+        return Head::Refused(why(ranged));
+    };
     let cells = count(scans, settings);
     if MOST_CELLS < cells {
         return Head::TooLarge;

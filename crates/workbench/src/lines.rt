@@ -1,5 +1,5 @@
 // The lines that bench writes, into a lent buffer.
-use crate::judge::wide;
+use bytes::cast::cell_to_number;
 use planner::average::average_plan;
 use planner::minmax::minmax_plan;
 use printing::line::ave_line;
@@ -79,10 +79,10 @@ pub fn planned(numbers: &[u32], cells: usize, out: &mut [u8]) -> usize
     requires { ⌜ 8704 ≤ length (now out) ⌝ }
     ensures { λ r. ⌜ Holds (plan-asked (now (numbers .entry)) cells) r (now (out .exit)) ⌝ }
 {
-    let scans = wide(numbers[0]);
-    let settings = wide(numbers[1]);
-    let law = wide(numbers[2]);
-    let budget = wide(numbers[3]);
+    let scans = cell_to_number(numbers[0]);
+    let settings = cell_to_number(numbers[1]);
+    let law = cell_to_number(numbers[2]);
+    let budget = cell_to_number(numbers[3]);
     let middle = 4 + cells;
     let end = middle + cells;
     let rates = &numbers[4..middle];

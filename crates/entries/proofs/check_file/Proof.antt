@@ -13,8 +13,7 @@ use Rattle.tables.specs.declared.refusal.Refusal.the-variants as refusal
 use Rattle.blocks.specs.File.{entry-at}
 use Rattle.checks.specs.Checks.{found}
 use Rattle.entries.specs.Entries.{breaks, entry-broken}
-use Rattle.checks.proofs.StageLaws.{first-found}
-use Rattle.checks.proofs.CheckLaws.{none-first}
+use Rattle.checks.proofs.CheckLaws.{first-found, none-first}
 use Rattle.entries.proofs.check_file.Statement.{statement}
 use Rattle.entries.proofs.check_file.Tie as tie
 
@@ -33,8 +32,8 @@ judged c =
     let a = c .before .before .before .before .before .before .before .before .args in
     let l = c .before .before .before .before .loop in
     c .entry-wrong .ensures
-    ∙ ap (λ p. breaks (a .scans) (a .settings) (a .law) (l .j) p (c .before .wide2 .result)) (l .inv .1 .0)
-    ∙ ap (breaks (a .scans) (a .settings) (a .law) (l .j) (entry-at (now (a .file)) (l .j - 1))) (c .before .wide2 .ensures .0 ∙ c .before .before .get2 .ensures .0)
+    ∙ ap (λ p. breaks (a .scans) (a .settings) (a .law) (l .j) p (c .before .byte-to-number2 .result)) (l .inv .1 .0)
+    ∙ ap (breaks (a .scans) (a .settings) (a .law) (l .j) (entry-at (now (a .file)) (l .j - 1))) (c .before .byte-to-number2 .ensures .0 ∙ c .before .before .get2 .ensures .0)
 
 sub-count : tie.Need-sub-count Inv-loop μ-loop
 sub-count c = omega arith
@@ -45,17 +44,17 @@ mul-count c = omega arith
 get-requires : tie.Need-get-requires Inv-loop μ-loop
 get-requires c κs = (omega arith, omega arith)
 
-wide-requires : tie.Need-wide-requires Inv-loop μ-loop
-wide-requires c κs = search needs
+byte-to-number-requires : tie.Need-byte-to-number-requires Inv-loop μ-loop
+byte-to-number-requires c κs = search needs
 
 loop-holds : tie.Need-loop-holds Inv-loop μ-loop
-loop-holds c = (omega arith, (c .wide .ensures .0 ∙ c .before .get .ensures .0, λ i h. absurd (omega arith)))
+loop-holds c = (omega arith, (c .byte-to-number .ensures .0 ∙ c .before .get .ensures .0, λ i h. absurd (omega arith)))
 
 get-requires-2 : tie.Need-get-requires-2 Inv-loop μ-loop
 get-requires-2 c κs = (omega arith, omega arith)
 
-wide-requires-2 : tie.Need-wide-requires-2 Inv-loop μ-loop
-wide-requires-2 c κs = search needs
+byte-to-number-requires-2 : tie.Need-byte-to-number-requires-2 Inv-loop μ-loop
+byte-to-number-requires-2 c κs = search needs
 
 entry-wrong-requires : tie.Need-entry-wrong-requires Inv-loop μ-loop
 entry-wrong-requires c κs = search needs
@@ -80,7 +79,7 @@ loop-again c =
     let e : l .j + 1 - 1 ≡ l .j = omega arith in (
       omega arith,
       (
-        c .before .before .wide2 .ensures .0 ∙ c .before .before .before .get2 .ensures .0 ∙ ap (entry-at (now (a .file))) (sym e),
+        c .before .before .byte-to-number2 .ensures .0 ∙ c .before .before .before .get2 .ensures .0 ∙ ap (entry-at (now (a .file))) (sym e),
         below-more (λ i. entry-broken (a .scans) (a .settings) (a .law) (entry-at (now (a .file))) i ≡ false) _ (l .inv .1 .1) (sym (judged (c .before)) ∙ c .if1 .left),
       ),
     )
@@ -99,10 +98,10 @@ check-file-spec =
     sub-count
     mul-count
     get-requires
-    wide-requires
+    byte-to-number-requires
     loop-holds
     get-requires-2
-    wide-requires-2
+    byte-to-number-requires-2
     entry-wrong-requires
     returns
     add-j

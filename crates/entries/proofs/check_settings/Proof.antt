@@ -12,8 +12,7 @@ use borrow.Author.Count.{below-more}
 use Rattle.tables.specs.declared.refusal.Refusal.the-variants as refusal
 use Rattle.checks.specs.Checks.{found}
 use Rattle.entries.specs.Entries.{breaks, entry-broken}
-use Rattle.checks.proofs.StageLaws.{first-found}
-use Rattle.checks.proofs.CheckLaws.{none-first}
+use Rattle.checks.proofs.CheckLaws.{first-found, none-first}
 use Rattle.entries.proofs.check_settings.Statement.{statement}
 use Rattle.entries.proofs.check_settings.Tie as tie
 
@@ -32,23 +31,23 @@ judged c =
     let a = c .before .before .before .before .before .before .before .before .args in
     let l = c .before .before .before .before .loop in
     c .entry-wrong .ensures
-    ∙ ap (λ p. breaks (a .scans) (a .settings) (a .law) (l .j) p (c .before .wide2 .result)) (l .inv .1 .0)
-    ∙ ap (breaks (a .scans) (a .settings) (a .law) (l .j) (getD (now (a .list)) (l .j - 1) 0)) (c .before .wide2 .ensures .0)
+    ∙ ap (λ p. breaks (a .scans) (a .settings) (a .law) (l .j) p (c .before .byte-to-number2 .result)) (l .inv .1 .0)
+    ∙ ap (breaks (a .scans) (a .settings) (a .law) (l .j) (getD (now (a .list)) (l .j - 1) 0)) (c .before .byte-to-number2 .ensures .0)
 
-shared-slice-read-wide : tie.Need-shared-slice-read-wide Inv-loop μ-loop
-shared-slice-read-wide c = search needs
+shared-slice-read-byte-to-number : tie.Need-shared-slice-read-byte-to-number Inv-loop μ-loop
+shared-slice-read-byte-to-number c = search needs
 
-wide-requires : tie.Need-wide-requires Inv-loop μ-loop
-wide-requires c κs = search needs
+byte-to-number-requires : tie.Need-byte-to-number-requires Inv-loop μ-loop
+byte-to-number-requires c κs = search needs
 
 loop-holds : tie.Need-loop-holds Inv-loop μ-loop
-loop-holds c = (omega arith, (c .wide .ensures .0, λ i h. absurd (omega arith)))
+loop-holds c = (omega arith, (c .byte-to-number .ensures .0, λ i h. absurd (omega arith)))
 
-shared-slice-read-wide-2 : tie.Need-shared-slice-read-wide-2 Inv-loop μ-loop
-shared-slice-read-wide-2 c = omega arith
+shared-slice-read-byte-to-number-2 : tie.Need-shared-slice-read-byte-to-number-2 Inv-loop μ-loop
+shared-slice-read-byte-to-number-2 c = omega arith
 
-wide-requires-2 : tie.Need-wide-requires-2 Inv-loop μ-loop
-wide-requires-2 c κs = search needs
+byte-to-number-requires-2 : tie.Need-byte-to-number-requires-2 Inv-loop μ-loop
+byte-to-number-requires-2 c κs = search needs
 
 entry-wrong-requires : tie.Need-entry-wrong-requires Inv-loop μ-loop
 entry-wrong-requires c κs = search needs
@@ -73,7 +72,7 @@ loop-again c =
     let e : l .j + 1 - 1 ≡ l .j = omega arith in (
       omega arith,
       (
-        c .before .before .wide2 .ensures .0 ∙ ap (λ k. getD (now (a .list)) k 0) (sym e),
+        c .before .before .byte-to-number2 .ensures .0 ∙ ap (λ k. getD (now (a .list)) k 0) (sym e),
         below-more (λ i. entry-broken (a .scans) (a .settings) (a .law) (λ k. getD (now (a .list)) k 0) i ≡ false) _ (l .inv .1 .1) (sym (judged (c .before)) ∙ c .if1 .left),
       ),
     )
@@ -89,11 +88,11 @@ check-settings-spec =
     (tie.spec
     Inv-loop
     μ-loop
-    shared-slice-read-wide
-    wide-requires
+    shared-slice-read-byte-to-number
+    byte-to-number-requires
     loop-holds
-    shared-slice-read-wide-2
-    wide-requires-2
+    shared-slice-read-byte-to-number-2
+    byte-to-number-requires-2
     entry-wrong-requires
     returns
     add-j

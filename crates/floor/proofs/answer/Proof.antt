@@ -2,7 +2,7 @@
 use native.Mathlib.Omega.{arith}
 use Prim.Native.Nat.{_/_, _≤_}
 use Rattle.floor.proofs.FloorLaws.{lowest-terms, small-terms, bought-small, reduced-by}
-use Rattle.tables.proofs.Totals.{cost-small}
+use Rattle.tables.proofs.Bounds.{cost-small}
 use borrow.Author.Needs.{needs}
 use Rattle.floor.proofs.answer.Statement.{statement}
 use Rattle.floor.proofs.answer.Tie as tie

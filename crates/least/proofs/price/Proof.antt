@@ -5,23 +5,23 @@ use borrow.Author.Needs.{needs}
 use Rattle.least.proofs.price.Statement.{statement}
 use Rattle.least.proofs.price.Tie as tie
 
-wide-requires : tie.Need-wide-requires
-wide-requires c κs = search needs
+cell-to-number-requires : tie.Need-cell-to-number-requires
+cell-to-number-requires c κs = search needs
 
-wide-requires-2 : tie.Need-wide-requires-2
-wide-requires-2 c κs = search needs
+cell-to-number-requires-2 : tie.Need-cell-to-number-requires-2
+cell-to-number-requires-2 c κs = search needs
 
-wide-requires-3 : tie.Need-wide-requires-3
-wide-requires-3 c κs = search needs
+cell-to-number-requires-3 : tie.Need-cell-to-number-requires-3
+cell-to-number-requires-3 c κs = search needs
 
-wide-requires-4 : tie.Need-wide-requires-4
-wide-requires-4 c κs = search needs
+cell-to-number-requires-4 : tie.Need-cell-to-number-requires-4
+cell-to-number-requires-4 c κs = search needs
 
 cost-requires : tie.Need-cost-requires
 cost-requires c κs = omega (
   arith,
-  weight-fits {w = c .wide4 .result} (c .before .before .wide2 .result) (omega arith) (omega arith),
-  weight-fits {w = c .before .wide3 .result} (c .before .before .before .wide .result) (omega arith) (omega arith),
+  weight-fits {w = c .cell-to-number4 .result} (c .before .before .cell-to-number2 .result) (omega arith) (omega arith),
+  weight-fits {w = c .before .cell-to-number3 .result} (c .before .before .before .cell-to-number .result) (omega arith) (omega arith),
 )
 
 shut-requires : tie.Need-shut-requires
@@ -31,16 +31,16 @@ choose-requires : tie.Need-choose-requires
 choose-requires c κs = search needs
 
 returns : tie.Need-returns
-returns c = priced (c .before .before .before .before .before .before .before .args .rule) (c .choose .ensures) (c .before .shut .ensures) (c .before .before .cost .ensures) (c .before .before .before .before .before .before .wide .ensures .0) (c .before .before .before .before .before .wide2 .ensures .0) (c .before .before .before .before .wide3 .ensures .0) (c .before .before .before .wide4 .ensures .0)
+returns c = (let a = c .before .before .before .before .before .before .before .args in priced (a .rule) (a .plain)) (c .choose .ensures) (c .before .shut .ensures) (c .before .before .cost .ensures) (c .before .before .before .before .before .before .cell-to-number .ensures .0) (c .before .before .before .before .before .cell-to-number2 .ensures .0) (c .before .before .before .before .cell-to-number3 .ensures .0) (c .before .before .before .cell-to-number4 .ensures .0)
 
 pub price-spec : {M : Type 1} → statement M
 price-spec =
     tie.close
     (tie.spec
-    wide-requires
-    wide-requires-2
-    wide-requires-3
-    wide-requires-4
+    cell-to-number-requires
+    cell-to-number-requires-2
+    cell-to-number-requires-3
+    cell-to-number-requires-4
     cost-requires
     shut-requires
     choose-requires

@@ -11,10 +11,10 @@ use Rattle.least.proofs.sums.Statement.{statement}
 use Rattle.least.proofs.sums.Tie as tie
 
 abbrev Inv-loop : tie.InvT-loop
-Inv-loop room₀ rates distortions rule keys lo hi q₀ room q = (lo ≤ q) × ((q ≤ hi) × ((length room ≡ 16) × ((r : ℕ) → lo ≤ r → r < q → getD room r 0 ≡ candidate rule rates distortions keys r)))
+Inv-loop row₀ rates distortions rule keys lo hi q₀ row q = (lo ≤ q) × ((q ≤ hi) × ((length row ≡ 16) × ((r : ℕ) → lo ≤ r → r < q → getD row r 0 ≡ candidate rule rates distortions keys r)))
 
 abbrev μ-loop : tie.MeasureT-loop
-μ-loop room₀ rates distortions rule keys lo hi q₀ room q = hi - q
+μ-loop row₀ rates distortions rule keys lo hi q₀ row q = hi - q
 
 loop-holds : tie.Need-loop-holds Inv-loop μ-loop
 loop-holds c = (omega arith, (omega arith, (c .pre .1 .1 .1, λ r h g. absurd (omega arith))))
@@ -31,26 +31,33 @@ mul-price-2 c = search needs
 element-copy-out-price-2 : tie.Need-element-copy-out-price-2 Inv-loop μ-loop
 element-copy-out-price-2 c = search needs
 
+mul-price-3 : tie.Need-mul-price-3 Inv-loop μ-loop
+mul-price-3 c = search needs
+
+element-copy-out-price-3 : tie.Need-element-copy-out-price-3 Inv-loop μ-loop
+element-copy-out-price-3 c = search needs
+
 price-requires : tie.Need-price-requires Inv-loop μ-loop
 price-requires c κs = search needs
 
-mul-room : tie.Need-mul-room Inv-loop μ-loop
-mul-room c = search needs
+mul-row : tie.Need-mul-row Inv-loop μ-loop
+mul-row c = search needs
 
-element-copy-out-room : tie.Need-element-copy-out-room Inv-loop μ-loop
-element-copy-out-room c = search needs
+element-copy-out-row : tie.Need-element-copy-out-row Inv-loop μ-loop
+element-copy-out-row c = search needs
 
-add-room : tie.Need-add-room Inv-loop μ-loop
-add-room c =
-    let s = c .before .before .before .before .before .before .before in
-    let r = s .pre .1 .1 .0 (c .before .before .before .before .before .before .loop .q) (omega arith) in
-    omega (arith, c .before .before .price .ensures, price-small (s .args .rule) _ _ (s .pre .1 .0) (r .0) (r .1), r .2)
+add-row : tie.Need-add-row Inv-loop μ-loop
+add-row c =
+    let s = c .before .before .before .before .before .before .before .before in
+    let k = c .before .before .before .before .before .before .before .loop .q in
+    let r = s .pre .1 .1 .0 k (omega arith) in
+    omega (arith, c .before .before .price .ensures, price-small (s .args .rule) (getD (s .args .rates .now) k 0) (getD (s .args .distortions .now) k 0) (getD (s .args .distortions .now) k 0) (s .pre .1 .0) (r .0) (r .1), r .2)
 
-mul-room-2 : tie.Need-mul-room-2 Inv-loop μ-loop
-mul-room-2 c = search needs
+mul-row-2 : tie.Need-mul-row-2 Inv-loop μ-loop
+mul-row-2 c = search needs
 
-element-write-room : tie.Need-element-write-room Inv-loop μ-loop
-element-write-room c = search needs
+element-write-row : tie.Need-element-write-row Inv-loop μ-loop
+element-write-row c = search needs
 
 add-q : tie.Need-add-q Inv-loop μ-loop
 add-q c = search needs
@@ -60,17 +67,17 @@ loop-less c = search needs
 
 loop-again : tie.Need-loop-again Inv-loop μ-loop
 loop-again c =
-    let i = c .before .before .before .before .before .before .loop .inv in
-    let q = c .before .before .before .before .before .before .loop .q in
-    let a = c .before .before .before .before .before .before .before .args in
-    let room = c .before .before .before .before .before .before .loop .room in
-    let l : q < length room = omega (arith, i .1 .1 .0) in (
+    let i = c .before .before .before .before .before .before .before .loop .inv in
+    let q = c .before .before .before .before .before .before .before .loop .q in
+    let a = c .before .before .before .before .before .before .before .before .args in
+    let row = c .before .before .before .before .before .before .before .loop .row in
+    let l : q < length row = omega (arith, i .1 .1 .0) in (
       omega arith,
       (
         omega arith,
         (
           simp length-set (i .1 .1 .0),
-          stored-more 0 (candidate (a .rule) (a .rates .now) (a .distortions .now) (a .keys .now)) room q _ l
+          stored-more 0 (candidate (a .rule) (a .rates .now) (a .distortions .now) (a .keys .now)) row q _ l
               (ap (λ (x : ℕ). x + getD (a .keys .now) q 0) (c .before .before .price .ensures)) (i .1 .1 .1),
         ),
       ),
@@ -90,12 +97,14 @@ sums-spec =
     element-copy-out-price
     mul-price-2
     element-copy-out-price-2
+    mul-price-3
+    element-copy-out-price-3
     price-requires
-    mul-room
-    element-copy-out-room
-    add-room
-    mul-room-2
-    element-write-room
+    mul-row
+    element-copy-out-row
+    add-row
+    mul-row-2
+    element-write-row
     add-q
     loop-less
     loop-again

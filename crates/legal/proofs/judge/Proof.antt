@@ -1,12 +1,12 @@
 -- `legal::judge` meets its contract, by what the two walks know. Assumes nothing.
 use denote.Ref.{now}
-use Rattle.legal.proofs.LegalLaws.{Walked, walked-lowest, walked-all}
+use Rattle.legal.proofs.LegalLaws.{TwoWalks, walked-lowest, walked-all}
 use borrow.Author.Needs.{needs}
 use Rattle.legal.proofs.judge.Statement.{statement}
 use Rattle.legal.proofs.judge.Tie as tie
 
 walked : (c : tie.After-legal-distortions) →
-    Walked (now (c .before .before .before .before .args .rates)) (now (c .before .before .before .before .args .distortions))
+    TwoWalks (now (c .before .before .before .before .args .rates)) (now (c .before .before .before .before .args .distortions))
     (c .before .legal-rates .result) (c .legal-distortions .result)
 walked c = record {
   rates-within = c .before .legal-rates .ensures .0;

@@ -27,7 +27,7 @@ tell-minmax-requires c κs =
     let a = c .before .before .before .before .before .before .before .before .before .before .before .before .before .before .args in
     let room = c .before .before .before .before .before .before .before .before .lent in
     let call = c .before .before .before .before .before .minmax-plan in
-    promise-tellable 32 (length (now (a .answer))) (length (now (a .plan))) (call .ensures)
+    promise-tellable 32 (length (now (a .answer))) (length (now (a .plan))) tt (call .ensures)
     (length-take-le (room .result) (now (a .plan)) (room .ensures .1) ∙ room .ensures .0) (minmax-needs (call .result))
 
 same-length : tie.Need-same-length

@@ -4,7 +4,11 @@ use lib.ListN.{length}
 use lib.Seq.{length-take-le}
 use denote.Ref.{now}
 use Rattle.telling.specs.Told.{lent}
-use Rattle.qpl.proofs.CarryLaws.{promise-tellable, plan-needs}
+use native.Mathlib.Omega.{arith}
+use Rattle.tables.specs.declared.refusal.Refusal.the-variants as refusal
+use Rattle.checks.specs.Planning.{multiplier-out}
+use Rattle.checks.proofs.GiveLaws.{gives-when}
+use Rattle.qpl.proofs.CarryLaws.{Little, promise-tellable, plan-needs}
 use Rattle.qpl.proofs.LentLaws.{promise-whole}
 use borrow.Author.Needs.{needs}
 use Rattle.qpl.proofs.qpl_multiplier.Statement.{statement}
@@ -27,7 +31,7 @@ tell-plan-requires c κs =
     let a = c .before .before .before .before .before .before .before .before .before .before .before .before .before .before .args in
     let room = c .before .before .before .before .before .before .before .before .lent in
     let call = c .before .before .before .before .before .multiplier-plan in
-    promise-tellable 24 (length (now (a .answer))) (length (now (a .plan))) (call .ensures)
+    promise-tellable 24 (length (now (a .answer))) (length (now (a .plan))) (gives-when Little (multiplier-out (a .n) (a .d)) refusal.Multiplier (omega arith)) (call .ensures)
     (length-take-le (room .result) (now (a .plan)) (room .ensures .1) ∙ room .ensures .0) (plan-needs (call .result))
 
 same-length : tie.Need-same-length

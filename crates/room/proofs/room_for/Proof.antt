@@ -1,75 +1,101 @@
 -- `room::room_for` meets its contract: the checks in their order, and products that do not wrap. Assumes nothing.
+use mathlib.Core.Path.{_≡_, refl, ap, _∙_}
+use mathlib.Core.Option.{none}
+use mathlib.Core.List.{[]}
 use native.Mathlib.Omega.{arith}
-use Rattle.tables.proofs.CellLaws.{cells-small, bytes-small, product-small}
-use Rattle.checks.proofs.RangeLaws.{in-range}
-use Rattle.room.proofs.RoomLaws.{refuses-channels, refuses-scans, refuses-settings, gives-room}
-use mathlib.Core.Path.{_≡_, sym, _∙_}
-use mathlib.Core.Bool.{false}
-use Prim.Native.Nat.{_*_, _≤_}
-use Rattle.checks.specs.Planning.{channels-out, scans-out, settings-out}
+use lib.ListN.{take}
 use borrow.Author.Needs.{needs}
+use Rattle.tables.specs.declared.refusal.Refusal.the-variants as refusal
+use Rattle.tables.specs.Refusals.{refused}
+use Rattle.tables.proofs.CellLaws.{cells-small, bytes-small}
+use Rattle.checks.specs.Checks.{first-refusal}
+use Rattle.checks.specs.Stages.{ended}
+use Rattle.checks.proofs.CheckLaws.{one-more}
+use Rattle.checks.proofs.StageLaws.{stage-stops, passed-none}
+use Rattle.room.specs.Room.{room-checks}
+use Rattle.room.proofs.RoomLaws.{refuses-room, gives-room, room-ranges}
 use Rattle.room.proofs.room_for.Statement.{statement}
 use Rattle.room.proofs.room_for.Tie as tie
 
-passed-channels : (c : tie.Else1) → channels-out (c .before .before .args .channels) ≡ false
-passed-channels c = sym (c .before .outside .ensures) ∙ c .if1 .left
+-- the stages ended as the checks do
+asked : (c : tie.After-then2) →
+    let a = c .before .before .before .before .before .before .args in
+    ended (c .then2 .result) ≡ first-refusal (room-checks (a .channels) (a .scans) (a .settings))
+asked c =
+    let a = c .before .before .before .before .before .before .args in
+    let R = room-checks (a .channels) (a .scans) (a .settings) in
+    let e1 : ended (c .before .before .before .before .unless .result) ≡ first-refusal (take 1 R) =
+    one-more [] refusal.Channels _ {o = none} refl (c .before .before .before .before .unless .ensures) (c .before .before .before .before .before .outside .ensures) in
+    let e2 : ended (c .before .before .then .result) ≡ first-refusal (take 2 R) =
+    one-more (take 1 R) refusal.Scans _ e1 (c .before .before .then .ensures) (c .before .before .before .outside2 .ensures) in
+    one-more (take 2 R) refusal.Settings _ e2 (c .then2 .ensures) (c .before .outside3 .ensures)
 
-passed-scans : (c : tie.Else2) → scans-out (c .before .before .before .before .args .scans) ≡ false
-passed-scans c = sym (c .before .outside2 .ensures) ∙ c .if2 .left
-
-passed-settings : (c : tie.Else3) → settings-out (c .before .before .before .before .before .before .args .settings) ≡ false
-passed-settings c = sym (c .before .outside3 .ensures) ∙ c .if3 .left
-
--- the two products fit
-bytes : (c : tie.After-count) → 4 * c .before .before .before .before .before .before .before .args .channels * c .count .result ≤ 1098516004864
-bytes c = bytes-small (in-range (passed-channels (c .before .before .before .before .before)) .1)
-    (rw (c .count .ensures) (cells-small (in-range (passed-scans (c .before .before .before)) .1) (in-range (passed-settings (c .before)) .1)))
-
-scratch : (c : tie.After-count) →
-    c .before .before .before .before .before .before .before .args .scans * c .before .before .before .before .before .before .before .args .settings ≤ 16384
-scratch c = product-small 1024 (in-range (passed-scans (c .before .before .before)) .1) (in-range (passed-settings (c .before)) .1)
+-- where they have passed
+passed : (c : tie.After-enum-told) →
+    let a = c .before .before .before .before .before .before .before .before .args in
+    first-refusal (room-checks (a .channels) (a .scans) (a .settings)) ≡ none
+passed c = passed-none (asked (c .before .before)) (c .enum-told .given .1)
 
 outside-requires : tie.Need-outside-requires
 outside-requires c κs = search needs
 
-returns : tie.Need-returns
-returns c = refuses-channels _ _ _ (sym (c .before .outside .ensures) ∙ c .if1 .taken)
+unless-requires : tie.Need-unless-requires
+unless-requires c κs = search needs
 
 outside-requires-2 : tie.Need-outside-requires-2
 outside-requires-2 c κs = search needs
 
-returns-2 : tie.Need-returns-2
-returns-2 c = refuses-scans _ _ _ (sym (c .before .before .before .outside .ensures) ∙ c .before .before .if1 .left) (sym (c .before .outside2 .ensures) ∙ c .if2 .taken)
+then-requires : tie.Need-then-requires
+then-requires c κs = search needs
 
 outside-requires-3 : tie.Need-outside-requires-3
 outside-requires-3 c κs = search needs
 
-returns-3 : tie.Need-returns-3
-returns-3 c = refuses-settings _ _ _ (passed-channels (c .before .before .before .before)) (passed-scans (c .before .before)) (sym (c .before .outside3 .ensures) ∙ c .if3 .taken)
+then-requires-2 : tie.Need-then-requires-2
+then-requires-2 c κs = search needs
+
+enum-told : tie.Need-enum-told
+enum-told c = search needs
+
+enum-told-2 : tie.Need-enum-told-2
+enum-told-2 c = search needs
+
+why-requires : tie.Need-why-requires
+why-requires c κs = search needs
+
+returns : tie.Need-returns
+returns c = ap refused (c .why .ensures) ∙ refuses-room _ _ _ (stage-stops (asked (c .before .before .before)) (c .before .enum-told2 .given .1))
 
 count-requires : tie.Need-count-requires
-count-requires c κs = omega (arith, in-range (passed-scans (c .before .before)), in-range (passed-settings c))
+count-requires c κs = let r = room-ranges _ _ _ (passed c) .1 in (r .0 .0, (r .0 .1, r .1 .1))
 
 table-bytes-requires : tie.Need-table-bytes-requires
-table-bytes-requires c κs = (in-range (passed-channels (c .before .before .before .before .before)) .1, omega (arith, bytes c))
+table-bytes-requires c κs =
+    let r = room-ranges _ _ _ (passed (c .before)) in
+    (r .0, omega (arith, bytes-small {k = c .count .result} (r .0) (rw (c .count .ensures) (cells-small (r .1 .0 .1) (r .1 .1 .1)))))
 
-mul-t12 : tie.Need-mul-t12
-mul-t12 c = omega (arith, scratch (c .before))
+scratch-need-requires : tie.Need-scratch-need-requires
+scratch-need-requires c κs = let r = room-ranges _ _ _ (passed (c .before .before)) .1 in (r .0 .1, r .1 .1)
 
-returns-4 : tie.Need-returns-4
-returns-4 c = rw (c .table-bytes .ensures, c .before .count .ensures) (gives-room _ _ _ (passed-channels (c .before .before .before .before .before .before)) (passed-scans (c .before .before .before .before)) (passed-settings (c .before .before)))
+returns-2 : tie.Need-returns-2
+returns-2 c =
+    rw (c .before .table-bytes .ensures, c .before .before .count .ensures, c .scratch-need .ensures .0) (gives-room _ _ _ (passed (c .before .before .before)))
 
 pub room-for-spec : {M : Type 1} → statement M
 room-for-spec =
     tie.close
     (tie.spec
     outside-requires
-    returns
+    unless-requires
     outside-requires-2
-    returns-2
+    then-requires
     outside-requires-3
-    returns-3
+    then-requires-2
+    enum-told
+    enum-told-2
+    why-requires
+    returns
     count-requires
     table-bytes-requires
-    mul-t12
-    returns-4)
+    scratch-need-requires
+    returns-2)

@@ -33,14 +33,14 @@ outside-requires-2 c κs = search needs
 then-requires-2 : tie.Need-then-requires-2
 then-requires-2 c κs = search needs
 
-past-one-requires : tie.Need-past-one-requires
-past-one-requires c κs = search needs
+unknown-requires : tie.Need-unknown-requires
+unknown-requires c κs = search needs
 
 then-requires-3 : tie.Need-then-requires-3
 then-requires-3 c κs = search needs
 
-past-one-requires-2 : tie.Need-past-one-requires-2
-past-one-requires-2 c κs = search needs
+no-kind-requires : tie.Need-no-kind-requires
+no-kind-requires c κs = search needs
 
 then-requires-4 : tie.Need-then-requires-4
 then-requires-4 c κs = search needs
@@ -91,8 +91,8 @@ returns c =
     let e1 : ended (c .before .before .before .before .before .before .before .before .before .before .before .before .before .before .before .before .before .before .before .before .before .before .before .unless .result) ≡ first-refusal (take 1 R) = one-more [] (refusal.Header 4) (a .m .letters) {o = none} refl (c .before .before .before .before .before .before .before .before .before .before .before .before .before .before .before .before .before .before .before .before .before .before .before .unless .ensures) refl in
     let e2 : ended (c .before .before .before .before .before .before .before .before .before .before .before .before .before .before .before .before .before .before .before .before .then .result) ≡ first-refusal (take 2 R) = one-more (take 1 R) (refusal.Header 8) (c .before .before .before .before .before .before .before .before .before .before .before .before .before .before .before .before .before .before .before .before .before .either-of .result) e1 (c .before .before .before .before .before .before .before .before .before .before .before .before .before .before .before .before .before .before .before .before .then .ensures) (c .before .before .before .before .before .before .before .before .before .before .before .before .before .before .before .before .before .before .before .before .before .either-of .ensures ∙ ap (λ t. t || c .before .before .before .before .before .before .before .before .before .before .before .before .before .before .before .before .before .before .before .before .before .before .before .before .args .m .length) (c .before .before .before .before .before .before .before .before .before .before .before .before .before .before .before .before .before .before .before .before .before .before .outside .ensures)) in
     let e3 : ended (c .before .before .before .before .before .before .before .before .before .before .before .before .before .before .before .before .before .before .then2 .result) ≡ first-refusal (take 3 R) = one-more (take 2 R) (refusal.Header 10) (c .before .before .before .before .before .before .before .before .before .before .before .before .before .before .before .before .before .before .before .outside2 .result) e2 (c .before .before .before .before .before .before .before .before .before .before .before .before .before .before .before .before .before .before .then2 .ensures) (c .before .before .before .before .before .before .before .before .before .before .before .before .before .before .before .before .before .before .before .outside2 .ensures) in
-    let e4 : ended (c .before .before .before .before .before .before .before .before .before .before .before .before .before .before .before .before .then3 .result) ≡ first-refusal (take 4 R) = one-more (take 3 R) (refusal.Header 11) (c .before .before .before .before .before .before .before .before .before .before .before .before .before .before .before .before .before .past-one .result) e3 (c .before .before .before .before .before .before .before .before .before .before .before .before .before .before .before .before .then3 .ensures) (c .before .before .before .before .before .before .before .before .before .before .before .before .before .before .before .before .before .past-one .ensures .0) in
-    let e5 : ended (c .before .before .before .before .before .before .before .before .before .before .before .before .before .before .then4 .result) ≡ first-refusal (take 5 R) = one-more (take 4 R) (refusal.Header 12) (c .before .before .before .before .before .before .before .before .before .before .before .before .before .before .before .past-one2 .result) e4 (c .before .before .before .before .before .before .before .before .before .before .before .before .before .before .then4 .ensures) (c .before .before .before .before .before .before .before .before .before .before .before .before .before .before .before .past-one2 .ensures .1) in
+    let e4 : ended (c .before .before .before .before .before .before .before .before .before .before .before .before .before .before .before .before .then3 .result) ≡ first-refusal (take 4 R) = one-more (take 3 R) (refusal.Header 11) (c .before .before .before .before .before .before .before .before .before .before .before .before .before .before .before .before .before .unknown .result) e3 (c .before .before .before .before .before .before .before .before .before .before .before .before .before .before .before .before .then3 .ensures) (c .before .before .before .before .before .before .before .before .before .before .before .before .before .before .before .before .before .unknown .ensures) in
+    let e5 : ended (c .before .before .before .before .before .before .before .before .before .before .before .before .before .before .then4 .result) ≡ first-refusal (take 5 R) = one-more (take 4 R) (refusal.Header 12) (c .before .before .before .before .before .before .before .before .before .before .before .before .before .before .before .no-kind .result) e4 (c .before .before .before .before .before .before .before .before .before .before .before .before .before .before .then4 .ensures) (c .before .before .before .before .before .before .before .before .before .before .before .before .before .before .before .no-kind .ensures) in
     let e6 : ended (c .before .before .before .before .before .before .before .before .before .before .before .before .before .then5 .result) ≡ first-refusal (take 6 R) = one-more (take 5 R) (refusal.Header 13) (a .m .run_13) e5 (c .before .before .before .before .before .before .before .before .before .before .before .before .before .then5 .ensures) (refl) in
     let e7 : ended (c .before .before .before .before .before .before .before .before .before .before .before .then6 .result) ≡ first-refusal (take 7 R) = one-more (take 6 R) (refusal.Header 24) (c .before .before .before .before .before .before .before .before .before .before .before .before .n-wrong .result) e6 (c .before .before .before .before .before .before .before .before .before .before .before .then6 .ensures) (c .before .before .before .before .before .before .before .before .before .before .before .before .n-wrong .ensures) in
     let e8 : ended (c .before .before .before .before .before .before .before .before .before .then7 .result) ≡ first-refusal (take 8 R) = one-more (take 7 R) (refusal.Header 28) (c .before .before .before .before .before .before .before .before .before .before .d-wrong .result) e7 (c .before .before .before .before .before .before .before .before .before .then7 .ensures) (c .before .before .before .before .before .before .before .before .before .before .d-wrong .ensures) in
@@ -112,9 +112,9 @@ rules-spec =
     then-requires
     outside-requires-2
     then-requires-2
-    past-one-requires
+    unknown-requires
     then-requires-3
-    past-one-requires-2
+    no-kind-requires
     then-requires-4
     then-requires-5
     n-wrong-requires

@@ -2,7 +2,7 @@
 use mathlib.Core.Path.{refl}
 use mathlib.Core.List.{[], _∷_}
 use denote.Ref.{now}
-use Rattle.promise.specs.Promise.{values-of}
+use Rattle.promise.specs.Promise.{total-values}
 use Rattle.telling.proofs.AnswerLaws.{one-value, behind}
 use borrow.Author.Needs.{needs}
 use Rattle.telling.proofs.put_minmax.Statement.{statement}
@@ -22,7 +22,7 @@ returns c =
     let a = c .before .before .before .before .before .before .before .before .before .before .args in
     let d = now (a .answer) in
     let one = one-value d 0 (a .m .ceiling) (c .before .before .before .before .before .before .put-eight .ensures) in
-    behind d 0 8 (a .m .ceiling ∷ []) (values-of (a .m .totals)) one (c .before .before .put-three .ensures) refl
+    behind d 0 8 (a .m .ceiling ∷ []) (total-values (a .m .totals)) one (c .before .before .put-three .ensures) refl
 
 pub put-minmax-spec : {M : Type 1} → statement M
 put-minmax-spec = tie.close (tie.spec put-eight-requires put-three-requires same-length returns)

@@ -2,7 +2,7 @@
 use mathlib.Core.Path.{ap}
 use mathlib.Core.List.{_∷_}
 use denote.Ref.{now}
-use Rattle.promise.specs.Promise.{values-of, minmax-reply}
+use Rattle.promise.specs.Promise.{total-values, minmax-reply}
 use Rattle.telling.proofs.AnswerLaws.{tellable-answer, tellable-refusal, answer-told, refusal-told}
 use borrow.Author.Needs.{needs}
 use Rattle.telling.proofs.tell_minmax.Statement.{statement}
@@ -15,7 +15,7 @@ put-minmax-requires : tie.Need-put-minmax-requires
 put-minmax-requires c κs =
     let told = c .before .before .told .given in
     let m = told .0 .0 in
-    tellable-answer (m .ceiling ∷ values-of (m .totals)) (ap minmax-reply (told .1)) (c .before .before .before .before .before .pre)
+    tellable-answer (m .ceiling ∷ total-values (m .totals)) (ap minmax-reply (told .1)) (c .before .before .before .before .before .pre)
 
 enum-known-told-2 : tie.Need-enum-known-told-2
 enum-known-told-2 c = search needs
@@ -31,7 +31,7 @@ returns : tie.Need-returns
 returns c =
     let start = c .before .before .before .before .before .before .before .before in
     let told = c .before .before .before .before .before .told .given in
-    let v = told .0 .0 .ceiling ∷ values-of (told .0 .0 .totals) in
+    let v = told .0 .0 .ceiling ∷ total-values (told .0 .0 .totals) in
     let e = ap minmax-reply (told .1) in
     answer-told v (now (start .args .answer)) e (tellable-answer v e (start .pre)) (c .before .before .put-minmax .ensures)
 

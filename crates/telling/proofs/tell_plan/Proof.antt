@@ -1,7 +1,7 @@
 -- `telling::tell_plan` meets its contract: an answer is put, and a refusal is a word. Assumes nothing.
 use mathlib.Core.Path.{ap}
 use denote.Ref.{now}
-use Rattle.promise.specs.Promise.{values-of, plan-reply}
+use Rattle.promise.specs.Promise.{total-values, plan-reply}
 use Rattle.telling.proofs.AnswerLaws.{tellable-answer, tellable-refusal, answer-told, refusal-told}
 use borrow.Author.Needs.{needs}
 use Rattle.telling.proofs.tell_plan.Statement.{statement}
@@ -13,7 +13,7 @@ enum-known-told c = search needs
 put-plan-requires : tie.Need-put-plan-requires
 put-plan-requires c κs =
     let told = c .before .before .told .given in
-    tellable-answer (values-of (told .0 .0)) (ap plan-reply (told .1)) (c .before .before .before .before .before .pre)
+    tellable-answer (total-values (told .0 .0)) (ap plan-reply (told .1)) (c .before .before .before .before .before .pre)
 
 enum-known-told-2 : tie.Need-enum-known-told-2
 enum-known-told-2 c = search needs
@@ -29,7 +29,7 @@ returns : tie.Need-returns
 returns c =
     let start = c .before .before .before .before .before .before .before .before in
     let told = c .before .before .before .before .before .told .given in
-    let v = values-of (told .0 .0) in
+    let v = total-values (told .0 .0) in
     let e = ap plan-reply (told .1) in
     answer-told v (now (start .args .answer)) e (tellable-answer v e (start .pre)) (c .before .before .put-plan .ensures)
 

@@ -2,13 +2,14 @@
 -- the others as they were, and the choices from this scan on lead to the rest of it. Assumes nothing.
 use mathlib.Core.Path.{_≡_, refl, ap, _∙_}
 use mathlib.Core.List.{List, _++_}
-use Prim.Native.Nat.{ℕ, _+_, _-_, _*_, _≤_, _<_}
+use Prim.Native.Nat.{ℕ, _+_, _-_, _≤_, _<_}
 use native.Mathlib.Omega.{arith}
 use lib.ListN.{length, set, take, drop, length-set}
 use lib.Seq.{take-all}
 use borrow.Author.Needs.{needs}
-use Rattle.trellis.specs.Chosen.{choice, walk, chosen}
-use Rattle.laws.proofs.Lists.{part, copy-more}
+use Rattle.trellis.proofs.ChoiceLaws.{need-more}
+use Rattle.trellis.specs.Choices.{choice, walk, chosen}
+use Rattle.laws.proofs.Lists.{copy-more}
 use Rattle.walk.proofs.WalkLaws.{length-walk, walk-on}
 use Rattle.walk.proofs.hand_over.Statement.{statement}
 use Rattle.walk.proofs.hand_over.Tie as tie
@@ -32,28 +33,19 @@ loop-holds c =
       ap (λ (n : ℕ). walk (choice (s .args .settings) (s .args .scratch .now)) n 0 0) e,
     )
 
--- the choice stands in scratch
-stored : (c : tie.In-loop Inv-loop μ-loop) →
-    let a = c .before .before .before .before .args in
-    c .before .loop .scan * a .settings + c .before .loop .p < length (a .scratch .now)
-stored c =
-    let h = c .loop-test .taken in
-    omega (arith, part (c .before .before .before .before .args .settings) h, c .before .loop .inv .3 h)
+read-requires : tie.Need-read-requires Inv-loop μ-loop
+read-requires c κs =
+    let s = c .before .before .before .before in
+    let h = c .loop-test .taken in (
+      (s .pre .0 .1 .0, (omega (arith, s .pre .0 .0), c .before .loop .inv .3 h)),
+      omega (arith, need-more (s .args .scans) (s .args .settings) (c .before .loop .scan) h, s .pre .0 .1 .1 .0),
+    )
 
-mul-q : tie.Need-mul-q Inv-loop μ-loop
-mul-q c = omega (arith, stored c)
-
-add-q : tie.Need-add-q Inv-loop μ-loop
-add-q c = omega (arith, stored c)
-
-shared-slice-read-q : tie.Need-shared-slice-read-q Inv-loop μ-loop
-shared-slice-read-q c = stored (c .before)
+cast-plan : tie.Need-cast-plan Inv-loop μ-loop
+cast-plan c = omega (arith, c .read .ensures .1)
 
 slice-write-plan : tie.Need-slice-write-plan Inv-loop μ-loop
 slice-write-plan c = search needs
-
-narrow-requires : tie.Need-narrow-requires Inv-loop μ-loop
-narrow-requires c κs = search needs
 
 add-scan : tie.Need-add-scan Inv-loop μ-loop
 add-scan c = search needs
@@ -63,10 +55,10 @@ loop-less c = search needs
 
 loop-again : tie.Need-loop-again Inv-loop μ-loop
 loop-again c =
-    let s = c .before .before .before .before .before .before in
+    let s = c .before .before .before .before .before in
     let a = s .args in
-    let l = c .before .before .before .loop in
-    let r = c .narrow .ensures .0 in
+    let l = c .before .before .loop in
+    let r = c .read .ensures .0 in
     let ch = choice (a .settings) (a .scratch .now) in
     let w = chosen (a .settings) (a .scans) (a .scratch .now) in
     let e = length-walk ch (a .scans) 0 0 in
@@ -74,8 +66,8 @@ loop-again c =
     let o = walk-on ch (a .scans - l .scan) (a .scans - (l .scan + 1)) (l .scan) (l .p) w (omega arith) h (l .inv .4) in (
       omega arith,
       simp length-set (l .inv .1),
-      ap (λ (z : List ℕ). set z (l .scan) (ch (l .scan) (l .p))) (l .inv .2) ∙ copy-more (l .scan) _ w (a .plan .now) (o .0) h (omega arith),
-      λ _. rw (r, o .0) (s .pre .1 (l .scan) (c .before .before .loop-test .taken)),
+      ap (λ (z : List ℕ). set z (l .scan) (c .read .result)) (l .inv .2) ∙ copy-more (l .scan) _ w (a .plan .now) (r ∙ o .0) h (omega arith),
+      λ _. rw (r, o .0) (s .pre .1 (l .scan) (c .before .loop-test .taken)),
       rw r (o .1),
     )
 
@@ -97,11 +89,9 @@ hand-over-spec =
     Inv-loop
     μ-loop
     loop-holds
-    mul-q
-    add-q
-    shared-slice-read-q
+    read-requires
+    cast-plan
     slice-write-plan
-    narrow-requires
     add-scan
     loop-less
     loop-again

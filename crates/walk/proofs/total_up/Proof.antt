@@ -2,15 +2,15 @@
 -- rest of the sequence. Assumes nothing.
 use mathlib.Core.Path.{_≡_, refl, _∙_}
 use mathlib.Core.List.{_∷_}
-use Prim.Native.Nat.{suc, _+_, _-_, _*_, _≤_, _<_}
+use Prim.Native.Nat.{suc, _-_, _≤_, _<_}
 use native.Mathlib.Numerals.{add-one}
 use native.Mathlib.Omega.{arith}
 use lib.ListN.{length, getD}
 use borrow.Author.Needs.{needs}
 use Rattle.tables.specs.Tables.{cell, table, series}
-use Rattle.tables.proofs.Totals.{table-small}
-use Rattle.trellis.specs.Chosen.{choice, walk, chosen}
-use Rattle.laws.proofs.Lists.{part}
+use Rattle.tables.proofs.Bounds.{table-small}
+use Rattle.trellis.proofs.ChoiceLaws.{need-more}
+use Rattle.trellis.specs.Choices.{choice, walk, chosen}
 use Rattle.walk.proofs.WalkLaws.{Along, along-none, along-all, along-more, along-small}
 use Rattle.tables.proofs.CellLaws.{cell-inside}
 use Rattle.checks.proofs.FitLaws.{fit-legal}
@@ -46,44 +46,30 @@ loop-holds c =
     let e : s .args .scans - 0 ≡ s .args .scans = omega arith in
     (omega arith, s .pre .0 .some-settings, rw e (along-none _ _ _ (s .pre .1 .1) refl refl refl))
 
--- the choice stands in scratch
-stored : (c : tie.In-loop Inv-loop μ-loop) →
-    let a = c .before .before .before .before .before .args in
-    c .before .loop .i * a .settings + c .before .loop .p < length (a .scratch .now)
-stored c =
+read-requires : tie.Need-read-requires Inv-loop μ-loop
+read-requires c κs =
     let s = c .before .before .before .before .before in
-    omega (arith, s .pre .0 .room, part (s .args .settings) (c .loop-test .taken))
-
-mul-narrow : tie.Need-mul-narrow Inv-loop μ-loop
-mul-narrow c = omega (arith, stored c)
-
-add-narrow : tie.Need-add-narrow Inv-loop μ-loop
-add-narrow c = omega (arith, stored c)
-
-shared-slice-read-narrow : tie.Need-shared-slice-read-narrow Inv-loop μ-loop
-shared-slice-read-narrow c = stored (c .before)
-
-narrow-requires : tie.Need-narrow-requires Inv-loop μ-loop
-narrow-requires c κs = search needs
+    let h = c .loop-test .taken in (
+      (s .pre .0 .settings, (omega (arith, s .pre .0 .scans), c .before .loop .inv .1)),
+      omega (arith, need-more (s .args .scans) (s .args .settings) (c .before .loop .i) h, s .pre .0 .room),
+    )
 
 -- the choice is a setting
-setting : (c : tie.After-narrow Inv-loop μ-loop) →
-    c .narrow .result < c .before .before .before .before .before .before .before .args .settings
-setting c = rw (c .narrow .ensures .0) (left-at (c .before .before) .kept .0)
+setting : (c : tie.After-read Inv-loop μ-loop) → c .read .result < c .before .before .before .before .before .before .args .settings
+setting c = rw (c .read .ensures .0) (left-at (c .before) .kept .0)
 
 number-requires : tie.Need-number-requires Inv-loop μ-loop
 number-requires c κs =
-    let f = c .before .before .before .before .before .before .before .pre .0 in
-    ((f .settings, omega (arith, f .scans)), (c .before .before .before .loop .inv .1, setting c))
+    let f = c .before .before .before .before .before .before .pre .0 in
+    ((f .settings, omega (arith, f .scans)), (c .before .before .loop .inv .1, setting c))
 
 -- the cell is one of the tables'
 inside : (c : tie.After-number Inv-loop μ-loop) →
-    let a = c .before .before .before .before .before .before .before .before .args in
+    let a = c .before .before .before .before .before .before .before .args in
     (c .number .result < length (a .rates .now)) × (c .number .result < length (a .distortions .now))
 inside c =
-    let s = c .before .before .before .before .before .before .before .before in
-    let l = c .before .before .before in
-    let h = cell-inside (s .args .scans) (s .args .settings) _ _ _ (l .loop-test .taken) (l .before .loop .inv .1) (setting (c .before)) in
+    let s = c .before .before .before .before .before .before .before in
+    let h = cell-inside (s .args .scans) (s .args .settings) _ _ _ (c .before .before .loop-test .taken) (c .before .before .before .loop .inv .1) (setting (c .before)) in
     (omega (arith, c .number .ensures, s .pre .0 .rates-long), omega (arith, c .number .ensures, s .pre .0 .distortions-long))
 
 mul-rate-of : tie.Need-mul-rate-of Inv-loop μ-loop
@@ -105,21 +91,21 @@ distortion-of-requires : tie.Need-distortion-of-requires Inv-loop μ-loop
 distortion-of-requires c κs = search needs
 
 -- what is read are the scan's cells
-read : (c : tie.After-distortion-of Inv-loop μ-loop) →
-    let a = c .before .before .before .before .before .before .before .before .before .before .before .before .args in
-    let l = c .before .before .before .before .before .before .before .before .loop in
+cells-read : (c : tie.After-distortion-of Inv-loop μ-loop) →
+    let a = c .before .before .before .before .before .before .before .before .before .before .before .args in
+    let l = c .before .before .before .before .before .before .before .loop in
     let k = cell (a .settings) (l .i) (l .p) (choice (a .settings) (a .scratch .now) (l .i) (l .p)) in
     (c .before .before .rate-of .result .0 ≡ getD (a .rates .now) k 0) × (c .distortion-of .result .0 ≡ getD (a .distortions .now) k 0)
-read c =
-    let e = rw (c .before .before .before .before .before .narrow .ensures .0) at (c .before .before .before .before .number .ensures) in
+cells-read c =
+    let e = rw (c .before .before .before .before .before .read .ensures .0) at (c .before .before .before .before .number .ensures) in
     (c .before .before .rate-of .ensures ∙ rw e, c .distortion-of .ensures ∙ rw e)
 
 with-scan-requires : tie.Need-with-scan-requires Inv-loop μ-loop
 with-scan-requires c κs =
-    let s = c .before .before .before .before .before .before .before .before .before .before .before .before in
-    let l = c .before .before .before .before .before .before .before in
-    let h = along-small (table-small _ (fit-legal (s .pre .0))) (s .pre .1) (left-at l) in
-    (omega (arith, read c .0, h .0), omega (arith, read c .1, h .1))
+    let s = c .before .before .before .before .before .before .before .before .before .before .before in
+    let T = table (s .args .scans) (s .args .settings) (s .args .law) (s .args .rates .now) (s .args .distortions .now) in
+    let h = along-small (table-small T (fit-legal {t = T} (s .pre .0))) (s .pre .1) (left-at (c .before .before .before .before .before .before)) in
+    (omega (arith, cells-read c .0, h .0), omega (arith, cells-read c .1, h .1))
 
 add-i : tie.Need-add-i Inv-loop μ-loop
 add-i c = search needs
@@ -129,10 +115,10 @@ loop-less c = search needs
 
 loop-again : tie.Need-loop-again Inv-loop μ-loop
 loop-again c =
-    let e = c .before .before .before .before .before .before .narrow .ensures .0 in
-    let r = read (c .before) in
+    let e = c .before .before .before .before .before .before .read .ensures .0 in
+    let r = cells-read (c .before) in
     let w = c .with-scan .ensures in
-    let l = left-at (c .before .before .before .before .before .before .before .before) in
+    let l = left-at (c .before .before .before .before .before .before .before) in
     let a = along-more l (w .0 ∙ rw (r .0)) (w .1 .0 ∙ rw (r .1)) (w .1 .1 ∙ rw (r .1)) in
     (omega arith, setting (c .before .before .before .before .before .before), rw (e, add-one) a)
 
@@ -148,10 +134,7 @@ total-up-spec =
     Inv-loop
     μ-loop
     loop-holds
-    mul-narrow
-    add-narrow
-    shared-slice-read-narrow
-    narrow-requires
+    read-requires
     number-requires
     mul-rate-of
     shared-slice-read-rate-of

@@ -21,15 +21,15 @@ add-four c = search needs
 four-requires-2 : tie.Need-four-requires-2
 four-requires-2 c κs = search needs
 
-sum-of-requires : tie.Need-sum-of-requires
-sum-of-requires c κs = search needs
+check-of-requires : tie.Need-check-of-requires
+check-of-requires c κs = search needs
 
 returns-2 : tie.Need-returns-2
 returns-2 c =
     let a = c .before .before .before .before .before .args in
-    own-number (a .file .now) (a .k) (c .before .before .before .four .ensures .0) (c .before .before .if1 .left) (c .before .four2 .ensures .0) (c .sum-of .ensures)
+    own-number (a .file .now) (a .k) (c .before .before .before .four .ensures .0) (c .before .before .if1 .left) (c .before .four2 .ensures .0) (c .check-of .ensures)
 
 pub block-wrong-spec : {M : Type 1} → statement M
 block-wrong-spec =
     tie.close
-    (tie.spec mul-at four-requires returns add-four four-requires-2 sum-of-requires returns-2)
+    (tie.spec mul-at four-requires returns add-four four-requires-2 check-of-requires returns-2)

@@ -11,8 +11,7 @@ use borrow.Author.Count.{below-more}
 use Rattle.tables.specs.declared.refusal.Refusal.the-variants as refusal
 use Rattle.checks.specs.Checks.{found}
 use Rattle.blocks.specs.Blocks.{block-broken, bad-block}
-use Rattle.checks.proofs.StageLaws.{first-found}
-use Rattle.checks.proofs.CheckLaws.{none-first}
+use Rattle.checks.proofs.CheckLaws.{first-found, none-first}
 use Rattle.blocks.proofs.sound.blocks.Statement.{statement}
 use Rattle.blocks.proofs.sound.blocks.Tie as tie
 

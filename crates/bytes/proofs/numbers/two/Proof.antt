@@ -8,20 +8,20 @@ use borrow.Author.Needs.{needs}
 use Rattle.bytes.proofs.numbers.two.Statement.{statement}
 use Rattle.bytes.proofs.numbers.two.Tie as tie
 
-shared-slice-read-wide : tie.Need-shared-slice-read-wide
-shared-slice-read-wide c = search needs
+shared-slice-read-byte-to-number : tie.Need-shared-slice-read-byte-to-number
+shared-slice-read-byte-to-number c = search needs
 
-wide-requires : tie.Need-wide-requires
-wide-requires c κs = search needs
+byte-to-number-requires : tie.Need-byte-to-number-requires
+byte-to-number-requires c κs = search needs
 
-add-wide : tie.Need-add-wide
-add-wide c = search needs
+add-byte-to-number : tie.Need-add-byte-to-number
+add-byte-to-number c = search needs
 
-shared-slice-read-wide-2 : tie.Need-shared-slice-read-wide-2
-shared-slice-read-wide-2 c = search needs
+shared-slice-read-byte-to-number-2 : tie.Need-shared-slice-read-byte-to-number-2
+shared-slice-read-byte-to-number-2 c = search needs
 
-wide-requires-2 : tie.Need-wide-requires-2
-wide-requires-2 c κs = search needs
+byte-to-number-requires-2 : tie.Need-byte-to-number-requires-2
+byte-to-number-requires-2 c κs = search needs
 
 mul-result : tie.Need-mul-result
 mul-result c = search needs
@@ -33,8 +33,8 @@ returns : tie.Need-returns
 returns c =
     let a = c .before .before .before .before .before .args in
     let s = now (a .s) in
-    let low = c .before .before .wide .ensures in
-    let high = c .wide2 .ensures in (
+    let low = c .before .before .byte-to-number .ensures in
+    let high = c .byte-to-number2 .ensures in (
       omega (
         arith,
         number-split s (a .at) 1 1 256 (omega arith) refl,
@@ -50,11 +50,11 @@ pub two-spec : {M : Type 1} → statement M
 two-spec =
     tie.close
     (tie.spec
-    shared-slice-read-wide
-    wide-requires
-    add-wide
-    shared-slice-read-wide-2
-    wide-requires-2
+    shared-slice-read-byte-to-number
+    byte-to-number-requires
+    add-byte-to-number
+    shared-slice-read-byte-to-number-2
+    byte-to-number-requires-2
     mul-result
     add-result
     returns)

@@ -1,127 +1,139 @@
--- `checks::check::check` meets its contract: the checks in their order, each callee's answer a definition's. Assumes nothing.
-use mathlib.Core.Path.{_≡_, sym, _∙_}
-use mathlib.Core.Bool.{false}
-use native.Mathlib.Omega.{arith}
-use denote.Ref.{now}
-use borrow.Author.Needs.{needs}
-use Rattle.checks.specs.Planning.{Asked, scans-out, settings-out, lengths-out}
+-- `checks::check::check` meets its contract: the stages in their order. Assumes nothing.
+use mathlib.Core.Path.{_≡_, refl, sym, ap, _∙_}
+use mathlib.Core.Option.{none}
+use mathlib.Core.Bool.{Bool}
+use mathlib.Core.List.{[]}
+use Prim.Native.Nat.{_≤_}
+use lib.ListN.{take}
+use Rattle.tables.specs.Limits.{most-scans, most-settings}
 use Rattle.tables.specs.Law.{law-out}
-use Rattle.tables.proofs.CellLaws.{product-small}
-use Rattle.checks.proofs.RangeLaws.{in-range}
-use Rattle.checks.specs.Checked.{asking}
-use Rattle.checks.proofs.PlanningLaws.{Passes, exact-lengths, refuses-multiplier, refuses-lengths, refuses-buffer, cells-decide, refuses-scans, refuses-settings, refuses-law}
+use Rattle.tables.specs.declared.refusal.Refusal.the-variants as refusal
+use Rattle.checks.specs.Checks.{first-refusal}
+use Rattle.checks.specs.Planning.{Asked, asking, range-checks}
+use Rattle.checks.specs.Stages.{ended}
+use Rattle.checks.proofs.CheckLaws.{one-more, none-else, none-when}
+use Rattle.checks.proofs.StageLaws.{passed-none}
+use Rattle.checks.proofs.PlanningLaws.{range-refusal, size-checks, range-stage, further-stage, size-stage, cells-decide, in-ranges, lengths-exact}
+use borrow.Author.Needs.{needs}
 use Rattle.checks.proofs.check.check.Statement.{statement}
 use Rattle.checks.proofs.check.check.Tie as tie
-
-passed-scans : (c : tie.Else1) → scans-out (c .before .before .before .before .args .scans) ≡ false
-passed-scans c = sym (c .before .outside .ensures) ∙ c .if1 .left
-
-passed-settings : (c : tie.Else2) → settings-out (c .before .before .before .before .before .before .args .settings) ≡ false
-passed-settings c = sym (c .before .outside2 .ensures) ∙ c .if2 .left
-
-passed-law : (c : tie.Else3) → law-out (c .before .before .before .before .before .before .before .before .args .law) ≡ false
-passed-law c = sym (c .before .law-outside .ensures) ∙ c .if3 .left
 
 -- what the call is asked
 abbrev asked : tie.Start → Asked
 asked c =
-    asking (c .args .scans) (c .args .settings) (c .args .law) (now (c .args .rates)) (now (c .args .distortions)) (c .args .plan) (c .args .scratch)
+    asking (c .args .scans) (c .args .settings) (c .args .law) (c .args .rates .now) (c .args .distortions .now) (c .args .plan) (c .args .scratch)
 
--- check 5 speaks of the count, which is the number of cells
-counted : (c : tie.After-wrong-lengths) →
-    let a = asked (c .before .before .before .before .before .before .before .before .before .before .before) in
-    c .wrong-lengths .result ≡ lengths-out (a .N) (a .Q) (a .rates) (a .distortions)
-counted c = rw (c .before .count .ensures) at (c .wrong-lengths .ensures)
+-- the first stage ended as the checks 1 to 3 do
+ranged : (c : tie.After-ranges) → ended (c .ranges .result) ≡ range-refusal (asked (c .before .before .before .before))
+ranged c =
+    let a = c .before .before .before .before .args in
+    c .ranges .ensures ∙ ap (λ (b : Bool). first-refusal (range-checks most-scans (a .scans) (a .settings) b)) (c .before .unknown .ensures)
 
-passed : (c : tie.Else6) →
-    let start = c .before .before .before .before .before .before .before .before .before .before .before .before .before .before in
-    Passes (start .args .fourth) (asked start)
-passed c = record {
-  scans = passed-scans (c .before .before .before .before .before .before .before .before .before .before);
-  settings = passed-settings (c .before .before .before .before .before .before .before .before);
-  law = passed-law (c .before .before .before .before .before .before);
-  multiplier = c .before .before .before .before .before .if4 .left;
-  lengths = sym (counted (c .before .before .before)) ∙ c .before .before .if5 .left;
-  buffers = sym (c .before .too-short .ensures) ∙ c .if6 .left;
-}
+-- where it passed, the numbers are in their ranges
+in-range-at : (c : tie.After-ranges) → ended (c .ranges .result) ≡ none →
+    let a = c .before .before .before .before .args in
+    ((1 ≤ a .scans) × (a .scans ≤ most-scans)) × ((1 ≤ a .settings) × (a .settings ≤ most-settings))
+in-range-at c d = let a = c .before .before .before .before .args in in-ranges most-scans (a .scans) (a .settings) (law-out (a .law)) (sym (ranged c) ∙ d)
 
-outside-requires : tie.Need-outside-requires
-outside-requires c κs = search needs
+-- the last stage ended as the checks 5 and 6 do
+sized : (c : tie.After-then) → ended (c .then .result) ≡ first-refusal (size-checks (asked (c .before .before .before .before .before .before .before .before .before .before .before .before .before .before)))
+sized c =
+    let R = size-checks (asked (c .before .before .before .before .before .before .before .before .before .before .before .before .before .before)) in
+    let e1 : ended (c .before .before .before .unless .result) ≡ first-refusal (take 1 R) =
+    one-more [] refusal.Lengths _ {o = none} refl (c .before .before .before .unless .ensures) (rw (c .before .before .before .before .before .count .ensures) at (c .before .before .before .before .wrong-lengths .ensures)) in
+    one-more (take 1 R) refusal.Buffer _ e1 (c .then .ensures) (rw (c .before .before .scratch-need .ensures .0) at (c .before .too-short .ensures))
+
+-- the stages before it have passed
+range-passed : (c : tie.After-then) → range-refusal (asked (c .before .before .before .before .before .before .before .before .before .before .before .before .before .before)) ≡ none
+range-passed c = passed-none (ranged (c .before .before .before .before .before .before .before .before .before .before)) (c .before .before .before .before .before .before .before .before .enum-told .given .1)
+
+further-passed : (c : tie.After-then) → ended (c .before .before .before .before .before .before .before .before .before .before .before .before .before .before .args .further) ≡ none
+further-passed c = ap ended (c .before .before .before .before .before .before .enum-told3 .given .1)
+
+-- where the last stage has passed too
+size-passed : (c : tie.After-enum-told5) → first-refusal (size-checks (asked (c .before .before .before .before .before .before .before .before .before .before .before .before .before .before .before .before))) ≡ none
+size-passed c = passed-none (sized (c .before .before)) (c .enum-told5 .given .1)
+
+unknown-requires : tie.Need-unknown-requires
+unknown-requires c κs = search needs
+
+ranges-requires : tie.Need-ranges-requires
+ranges-requires c κs = search needs
+
+enum-told : tie.Need-enum-told
+enum-told c = search needs
+
+enum-told-2 : tie.Need-enum-told-2
+enum-told-2 c = search needs
 
 returns : tie.Need-returns
-returns c = refuses-scans (sym (c .before .outside .ensures) ∙ c .if1 .taken)
+returns c = range-stage _ _ (ranged (c .before .before)) (c .enum-told2 .given .1)
 
-outside-requires-2 : tie.Need-outside-requires-2
-outside-requires-2 c κs = search needs
+enum-told-3 : tie.Need-enum-told-3
+enum-told-3 c = search needs
+
+enum-told-4 : tie.Need-enum-told-4
+enum-told-4 c = search needs
 
 returns-2 : tie.Need-returns-2
-returns-2 c = refuses-settings (passed-scans (c .before .before)) (sym (c .before .outside2 .ensures) ∙ c .if2 .taken)
-
-law-outside-requires : tie.Need-law-outside-requires
-law-outside-requires c κs = search needs
-
-returns-3 : tie.Need-returns-3
-returns-3 c =
-    refuses-law (passed-scans (c .before .before .before .before)) (passed-settings (c .before .before))
-    (sym (c .before .law-outside .ensures) ∙ c .if3 .taken)
-
-returns-4 : tie.Need-returns-4
-returns-4 c =
-    refuses-multiplier (passed-scans (c .before .before .before .before .before)) (passed-settings (c .before .before .before)) (passed-law (c .before))
-    (c .if4 .taken)
+returns-2 c = further-stage _ _ (passed-none (ranged (c .before .before .before .before)) (c .before .before .enum-told .given .1)) refl (c .enum-told4 .given .1)
 
 count-requires : tie.Need-count-requires
-count-requires c κs =
-    omega (arith, in-range (passed-scans (c .before .before .before .before .before)), in-range (passed-settings (c .before .before .before)))
+count-requires c κs = let r = in-range-at (c .before .before .before .before) (ap ended (c .before .before .enum-told .given .1)) in (r .0 .0, (r .0 .1, r .1 .1))
 
 wrong-lengths-requires : tie.Need-wrong-lengths-requires
 wrong-lengths-requires c κs = search needs
 
-returns-5 : tie.Need-returns-5
-returns-5 c =
-    refuses-lengths (passed-scans (c .before .before .before .before .before .before .before .before)) (passed-settings (c .before .before .before .before .before .before))
-    (passed-law (c .before .before .before .before)) (c .before .before .before .if4 .left)
-    (sym (counted (c .before)) ∙ c .if5 .taken)
+unless-requires : tie.Need-unless-requires
+unless-requires c κs = search needs
 
-mul-too-short : tie.Need-mul-too-short
-mul-too-short c =
-    omega (
-      arith,
-      product-small 1024 (in-range (passed-scans (c .before .before .before .before .before .before .before .before)) .1)
-          (in-range (passed-settings (c .before .before .before .before .before .before)) .1),
-    )
+scratch-need-requires : tie.Need-scratch-need-requires
+scratch-need-requires c κs = let r = in-range-at (c .before .before .before .before .before .before .before) (ap ended (c .before .before .before .before .before .enum-told .given .1)) in (r .0 .1, r .1 .1)
 
 too-short-requires : tie.Need-too-short-requires
 too-short-requires c κs = search needs
 
-returns-6 : tie.Need-returns-6
-returns-6 c =
-    refuses-buffer (passed-scans (c .before .before .before .before .before .before .before .before .before .before)) (passed-settings (c .before .before .before .before .before .before .before .before))
-    (passed-law (c .before .before .before .before .before .before)) (c .before .before .before .before .before .if4 .left)
-    (sym (counted (c .before .before .before)) ∙ c .before .before .if5 .left) (sym (c .before .too-short .ensures) ∙ c .if6 .taken)
+then-requires : tie.Need-then-requires
+then-requires c κs = search needs
+
+enum-told-5 : tie.Need-enum-told-5
+enum-told-5 c = search needs
+
+enum-told-6 : tie.Need-enum-told-6
+enum-told-6 c = search needs
+
+returns-3 : tie.Need-returns-3
+returns-3 c = size-stage _ _ (range-passed (c .before .before)) (further-passed (c .before .before)) (sized (c .before .before)) (c .enum-told6 .given .1)
 
 check-cells-requires : tie.Need-check-cells-requires
-check-cells-requires c κs = let e = exact-lengths (passed c) in e .1 ∙ sym (e .0)
+check-cells-requires c κs =
+    let a = asked (c .before .before .before .before .before .before .before .before .before .before .before .before .before .before .before .before) in
+    let e = lengths-exact (a .N) (a .Q) (a .rates) (a .distortions) (none-when _ _ (none-else _ _ (size-passed c) .0)) in
+    e .1 ∙ sym (e .0)
 
-returns-7 : tie.Need-returns-7
-returns-7 c = cells-decide (passed (c .before)) (c .check-cells .ensures)
+returns-4 : tie.Need-returns-4
+returns-4 c = cells-decide _ _ (range-passed (c .before .before .before)) (further-passed (c .before .before .before)) (size-passed (c .before)) (c .check-cells .ensures)
 
 pub check-spec : {M : Type 1} → statement M
 check-spec =
     tie.close
     (tie.spec
-    outside-requires
+    unknown-requires
+    ranges-requires
+    enum-told
+    enum-told-2
     returns
-    outside-requires-2
+    enum-told-3
+    enum-told-4
     returns-2
-    law-outside-requires
-    returns-3
-    returns-4
     count-requires
     wrong-lengths-requires
-    returns-5
-    mul-too-short
+    unless-requires
+    scratch-need-requires
     too-short-requires
-    returns-6
+    then-requires
+    enum-told-5
+    enum-told-6
+    returns-3
     check-cells-requires
-    returns-7)
+    returns-4)

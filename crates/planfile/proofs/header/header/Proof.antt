@@ -4,14 +4,14 @@ use denote.Ref.{now}
 use Rattle.checks.specs.Checks.{first-refusal}
 use Rattle.rules.specs.declared.Fields.{Fields}
 use Rattle.rules.specs.Rules.{header-rules}
-use Rattle.planfile.specs.Reading.{fields-of, marks-of, broken-field}
+use Rattle.planfile.specs.Reading.{fields-of, faults-of, broken-field}
 use borrow.Author.Needs.{needs}
 use Rattle.planfile.proofs.header.header.Statement.{statement}
 use Rattle.planfile.proofs.header.header.Tie as tie
 
-marks-requires : tie.Need-marks-requires
+faults-requires : tie.Need-faults-requires
 unfolding fields-of
-marks-requires c κs = (c .before .pre .0, ap (λ (f : Fields). f .scans) (c .before .pre .1))
+faults-requires c κs = (c .before .pre .0, ap (λ (f : Fields). f .scans) (c .before .pre .1))
 
 rules-requires : tie.Need-rules-requires
 rules-requires c κs = search needs
@@ -21,8 +21,8 @@ unfolding broken-field
 returns c =
     let s = now (c .before .before .before .args .file) in
     c .rules .ensures
-    ∙ ap (λ m. first-refusal (header-rules m (c .before .before .before .args .f))) (c .before .marks .ensures)
-    ∙ ap (λ f. first-refusal (header-rules (marks-of s) f)) (c .before .before .before .pre .1)
+    ∙ ap (λ m. first-refusal (header-rules m (c .before .before .before .args .f))) (c .before .faults .ensures)
+    ∙ ap (λ f. first-refusal (header-rules (faults-of s) f)) (c .before .before .before .pre .1)
 
 pub header-spec : {M : Type 1} → statement M
-header-spec = tie.close (tie.spec marks-requires rules-requires returns)
+header-spec = tie.close (tie.spec faults-requires rules-requires returns)

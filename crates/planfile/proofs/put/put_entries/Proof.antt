@@ -10,7 +10,7 @@ use denote.Ref.{now}
 use Rattle.blocks.specs.File.{entry-of}
 use Rattle.bytes.specs.Bytes.{with-half}
 use Rattle.blocks.specs.Packed.{place-of}
-use Rattle.planfile.proofs.PutLaws.{kept}
+use Rattle.planfile.proofs.PutLaws.{length-kept}
 use Rattle.planfile.proofs.EnteredLaws.{entered, Entered, entered-none, entered-more, entered-all, length-entered}
 use Rattle.planfile.proofs.EntryLaws.{entry-in, entry-out, setting-small}
 use Rattle.planfile.proofs.put.put_entries.Statement.{statement}
@@ -93,7 +93,7 @@ loop-again c =
               ∙ ap (λ (v : ℕ). set (entered d e (a .b) j) (place-of j) (with-half (getD (entered d e (a .b) j) (place-of j) 0) (j % 2) v))
               (entry-in (a .scans) s j (c .before .before .before .before .before .before .loop-test .taken))
               ∙ entered-more d e (setting-small (a .scans) s (pre .1 .1)) (a .b) j
-              (omega (arith, kept d at (replicate 504 0) p, kept (now (a .file)) at (replicate 504 0) zeros)) (omega arith) g
+              (omega (arith, length-kept d at (replicate 504 0) p, length-kept (now (a .file)) at (replicate 504 0) zeros)) (omega arith) g
               ∙ ap (entered d e (a .b)) (sym (add-one j)),
         ),
       ),

@@ -8,8 +8,8 @@ use borrow.Author.Needs.{needs}
 use Rattle.planfile.proofs.put.seal.Statement.{statement}
 use Rattle.planfile.proofs.put.seal.Tie as tie
 
-sum-of-requires : tie.Need-sum-of-requires
-sum-of-requires c κs = search needs
+check-of-requires : tie.Need-check-of-requires
+check-of-requires c κs = search needs
 
 add-put-four : tie.Need-add-put-four
 add-put-four c = search needs
@@ -24,7 +24,7 @@ returns : tie.Need-returns
 returns c =
     let a = c .before .before .before .before .before .before .before .args in
     c .before .before .put-four .ensures
-    ∙ ap (λ (x : ℕ). sets (now (a .file)) (a .at + 508) (le 4 x)) (c .before .before .before .before .sum-of .ensures)
+    ∙ ap (λ (x : ℕ). sets (now (a .file)) (a .at + 508) (le 4 x)) (c .before .before .before .before .check-of .ensures)
 
 pub seal-spec : {M : Type 1} → statement M
-seal-spec = tie.close (tie.spec sum-of-requires add-put-four put-four-requires same-length returns)
+seal-spec = tie.close (tie.spec check-of-requires add-put-four put-four-requires same-length returns)

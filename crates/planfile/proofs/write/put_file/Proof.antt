@@ -4,7 +4,6 @@ use borrow.Author.Needs.{needs}
 use mathlib.Core.Path.{_≡_, refl, sym, ap, _∙_}
 use Prim.Native.Nat.{suc, _*_, _-_, _≤_}
 use native.Mathlib.Nat.{zero-add}
-use native.Mathlib.Numerals.{add-one}
 use lib.ListN.{length}
 use lib.Seq.{sets, length-sets}
 use denote.Ref.{now}
@@ -61,30 +60,27 @@ loop-again c =
       ),
     )
 
-add-result : tie.Need-add-result Inv-loop μ-loop
-add-result c = omega (arith, c .before .before .data-blocks .ensures .1)
-
-mul-result : tie.Need-mul-result Inv-loop μ-loop
-mul-result c = omega (arith, c .before .before .data-blocks .ensures .1)
+file-length-requires : tie.Need-file-length-requires Inv-loop μ-loop
+file-length-requires c κs = c .before .before .data-blocks .ensures .1
 
 same-length : tie.Need-same-length Inv-loop μ-loop
 same-length c =
-    let s = c .before .before .before .before .before .before .before .before .before in
-    c .before .loop .inv .1 .0 ∙ ap length (c .before .before .before .before .before .put-header .ensures) ∙ length-sets (now (s .args .file)) 0 (sealed (header (s .args .f)))
+    let s = c .before .before .before .before .before .before .before .before .before .before in
+    c .before .before .loop .inv .1 .0 ∙ ap length (c .before .before .before .before .before .before .put-header .ensures) ∙ length-sets (now (s .args .file)) 0 (sealed (header (s .args .f)))
 
 returns : tie.Need-returns Inv-loop μ-loop
 returns c =
-    let s = c .before .before .before .before .before .before .before .before .before in
+    let s = c .before .before .before .before .before .before .before .before .before .before in
     let a = s .args in
-    let l = c .before .loop in
+    let l = c .before .before .loop in
     let e = entry-of (a .f .scans) (now (a .settings)) in
-    let m = c .before .before .data-blocks .ensures .0 in
+    let m = c .before .before .before .data-blocks .ensures .0 in
     let n : l .b ≡ data-blocks (a .f .scans) = omega (arith, m, l .inv .0) in
     let d = now (a .file) in (
-      ap (λ k. 512 * k) (add-one _ ∙ ap suc m),
+      c .file-length .ensures ∙ ap (λ k. 512 * suc k) m,
       l .inv .1 .1
-          ∙ ap (λ k. sets (c .before .before .before .before .before .put-header .last .0) 512 (data-from e 0 k)) n
-          ∙ ap (λ x. sets x 512 (data-from e 0 (data-blocks (a .f .scans)))) (c .before .before .before .before .before .put-header .ensures)
+          ∙ ap (λ k. sets (c .before .before .before .before .before .before .put-header .last .0) 512 (data-from e 0 k)) n
+          ∙ ap (λ x. sets x 512 (data-from e 0 (data-blocks (a .f .scans)))) (c .before .before .before .before .before .before .put-header .ensures)
           ∙ sets-append d (sealed (header (a .f))) (data-from e 0 (data-blocks (a .f .scans))) 0 512
           (sym (zero-add (length (sealed (header (a .f)))) ∙ length-sealed (header (a .f)) (length-header (a .f)))),
     )
@@ -102,7 +98,6 @@ put-file-spec =
     add-b
     loop-less
     loop-again
-    add-result
-    mul-result
+    file-length-requires
     same-length
     returns)

@@ -1,10 +1,8 @@
 -- `planfile::write::too_short` meets its contract. Assumes nothing.
-use native.Mathlib.Omega.{arith}
-use mathlib.Core.Path.{_≡_, refl, ap, _∙_}
-use Prim.Native.Nat.{suc, _+_, _*_}
+use mathlib.Core.Path.{refl, ap, _∙_}
+use Prim.Native.Nat.{suc, _*_}
 use lib.Dec.{ltb}
 use borrow.Author.Tests.{lt-ltb, le-ltb}
-use native.Mathlib.Numerals.{add-one}
 use Rattle.blocks.specs.File.{file-length}
 use borrow.Author.Needs.{needs}
 use Rattle.planfile.proofs.write.too_short.Statement.{statement}
@@ -16,17 +14,13 @@ returns c = rw (lt-ltb _ _ (c .if1 .taken)) refl
 data-blocks-requires : tie.Need-data-blocks-requires
 data-blocks-requires c κs = search needs
 
-add-result : tie.Need-add-result
-add-result c = omega (arith, c .data-blocks .ensures .1)
-
-mul-result : tie.Need-mul-result
-mul-result c = omega (arith, c .data-blocks .ensures .1)
+file-length-requires : tie.Need-file-length-requires
+file-length-requires c κs = c .data-blocks .ensures .1
 
 returns-2 : tie.Need-returns-2
 returns-2 c =
-    let a = c .before .before .args in
-    let e : 512 * (c .data-blocks .result + 1) ≡ file-length (a .scans) = ap (λ n. 512 * n) (add-one (c .data-blocks .result) ∙ ap suc (c .data-blocks .ensures .0)) in
-    rw (le-ltb _ _ (c .before .if1 .left)) (ap (ltb (a .room)) e)
+    let a = c .before .before .before .args in
+    rw (le-ltb _ _ (c .before .before .if1 .left)) (ap (ltb (a .room)) (c .file-length .ensures ∙ ap (λ n. 512 * suc n) (c .before .data-blocks .ensures .0)))
 
 pub too-short-spec : {M : Type 1} → statement M
-too-short-spec = tie.close (tie.spec returns data-blocks-requires add-result mul-result returns-2)
+too-short-spec = tie.close (tie.spec returns data-blocks-requires file-length-requires returns-2)

@@ -14,8 +14,8 @@ enum-known-checked c = search needs
 enum-told : tie.Need-enum-told
 enum-told c = search needs
 
-average-of-requires : tie.Need-average-of-requires
-average-of-requires c κs = checked-sound refl (c .before .before .before .before .check .ensures) (c .before .before .enum-told .given .1)
+sound-average-requires : tie.Need-sound-average-requires
+sound-average-requires c κs = checked-sound refl (c .before .before .before .before .check .ensures) (c .before .before .enum-told .given .1)
 
 same-length : tie.Need-same-length
 same-length c = search needs
@@ -36,7 +36,7 @@ average-plan-spec =
     check-requires
     enum-known-checked
     enum-told
-    average-of-requires
+    sound-average-requires
     same-length
     same-length-2
     returns

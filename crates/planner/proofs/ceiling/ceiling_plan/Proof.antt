@@ -14,8 +14,8 @@ enum-known-checked c = search needs
 enum-told : tie.Need-enum-told
 enum-told c = search needs
 
-ceiling-of-requires : tie.Need-ceiling-of-requires
-ceiling-of-requires c κs = checked-sound refl (c .before .before .before .before .check .ensures) (c .before .before .enum-told .given .1)
+sound-ceiling-requires : tie.Need-sound-ceiling-requires
+sound-ceiling-requires c κs = checked-sound refl (c .before .before .before .before .check .ensures) (c .before .before .enum-told .given .1)
 
 same-length : tie.Need-same-length
 same-length c = search needs
@@ -36,7 +36,7 @@ ceiling-plan-spec =
     check-requires
     enum-known-checked
     enum-told
-    ceiling-of-requires
+    sound-ceiling-requires
     same-length
     same-length-2
     returns

@@ -14,8 +14,8 @@ enum-known-checked c = search needs
 enum-told : tie.Need-enum-told
 enum-told c = search needs
 
-minmax-of-requires : tie.Need-minmax-of-requires
-minmax-of-requires c κs = checked-sound refl (c .before .before .before .before .check .ensures) (c .before .before .enum-told .given .1)
+sound-minmax-requires : tie.Need-sound-minmax-requires
+sound-minmax-requires c κs = checked-sound refl (c .before .before .before .before .check .ensures) (c .before .before .enum-told .given .1)
 
 same-length : tie.Need-same-length
 same-length c = search needs
@@ -36,7 +36,7 @@ minmax-plan-spec =
     check-requires
     enum-known-checked
     enum-told
-    minmax-of-requires
+    sound-minmax-requires
     same-length
     same-length-2
     returns

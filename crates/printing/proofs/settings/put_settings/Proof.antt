@@ -25,14 +25,14 @@ abbrev μ-loop : tie.MeasureT-loop
 loop-holds : tie.Need-loop-holds Inv-loop μ-loop
 loop-holds c = (omega arith, (refl, (omega arith, record { so = refl; end = omega arith })))
 
-shared-slice-read-wide : tie.Need-shared-slice-read-wide Inv-loop μ-loop
-shared-slice-read-wide c = omega arith
+shared-slice-read-byte-to-number : tie.Need-shared-slice-read-byte-to-number Inv-loop μ-loop
+shared-slice-read-byte-to-number c = omega arith
 
-wide-requires : tie.Need-wide-requires Inv-loop μ-loop
-wide-requires c κs = search needs
+byte-to-number-requires : tie.Need-byte-to-number-requires Inv-loop μ-loop
+byte-to-number-requires c κs = search needs
 
 put-spaced-requires : tie.Need-put-spaced-requires Inv-loop μ-loop
-put-spaced-requires c κs = omega (arith, length-byte (c .wide .result) (c .wide .ensures .1))
+put-spaced-requires c κs = omega (arith, length-byte (c .byte-to-number .result) (c .byte-to-number .ensures .1))
 
 add-i : tie.Need-add-i Inv-loop μ-loop
 add-i c = omega arith
@@ -43,7 +43,7 @@ loop-less c = omega arith
 loop-again : tie.Need-loop-again Inv-loop μ-loop
 loop-again c =
     let put = c .before .before in
-    let byte = put .before .wide in
+    let byte = put .before .byte-to-number in
     let l = put .before .before .before .before .before .loop in
     let s = now (put .before .before .before .before .before .before .before .before .args .settings) in (
       omega arith,
@@ -77,8 +77,8 @@ put-settings-spec =
     Inv-loop
     μ-loop
     loop-holds
-    shared-slice-read-wide
-    wide-requires
+    shared-slice-read-byte-to-number
+    byte-to-number-requires
     put-spaced-requires
     add-i
     loop-less

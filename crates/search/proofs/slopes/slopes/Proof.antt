@@ -1,8 +1,8 @@
 -- `search::slopes::slopes` meets its contract: the bracket narrows until a plan ties. The measure is its width in rate. Assumes nothing.
 use mathlib.Core.Path.{refl, sym, _∙_}
-use Prim.Native.Nat.{_*_, _-_, _<_}
-use Rattle.tables.specs.Tables.{table, planning}
-use Rattle.seek.specs.Passes.{Framed}
+use Prim.Native.Nat.{_-_, _<_}
+use Rattle.tables.specs.Tables.{scratch-need, table, planning}
+use Rattle.seek.specs.Sought.{Framed}
 use Rattle.search.specs.Search.{Bracketed}
 use Rattle.seek.proofs.SeekLaws.{fit-framed, framed-on, framed-none, sums-small}
 use Rattle.search.proofs.SlopeLaws.{pass-finds, bracket-falls, bracket-rises, lo-allowed, slope-small, slope-ends, narrowed-more, totals-cost-small}
@@ -10,7 +10,7 @@ use Rattle.search.proofs.slopes.slopes.Statement.{statement}
 use Rattle.search.proofs.slopes.slopes.Tie as tie
 
 abbrev Inv-loop : tie.InvT-loop
-Inv-loop scans settings law budget rates distortions scratch₀ at₀ scratch at = Bracketed (planning (table scans settings law rates distortions)) budget (at .lo) (at .hi) × Framed (scans * settings) scratch₀ scratch
+Inv-loop scans settings law budget rates distortions scratch₀ at₀ scratch at = Bracketed (planning (table scans settings law rates distortions)) budget (at .lo) (at .hi) × Framed (scratch-need scans settings) scratch₀ scratch
 
 abbrev μ-loop : tie.MeasureT-loop
 μ-loop scans settings law budget rates distortions scratch₀ at₀ scratch at = at .hi .rate .0 - at .lo .rate .0
@@ -35,7 +35,7 @@ multiplier-pass-requires : tie.Need-multiplier-pass-requires Inv-loop μ-loop
 multiplier-pass-requires c κs =
     let s = c .before .before .before .before .before .before in
     let i = c .before .before .loop .inv in
-    (fit-framed (s .pre .0) (i .1), slope-small (i .0) (sums-small (s .pre .0)) (c .before .slope-of .ensures))
+    (fit-framed (s .pre .0) (i .1), slope-small (i .0) (sums-small (s .args .law) (s .pre .0)) (c .before .slope-of .ensures))
 
 total-up-requires : tie.Need-total-up-requires Inv-loop μ-loop
 total-up-requires c κs =
@@ -47,7 +47,7 @@ ties-requires : tie.Need-ties-requires Inv-loop μ-loop
 ties-requires c κs =
     let s = c .before .before .before .before .before .before .before .before .before .before .before in
     let i = c .before .before .before .before .before .before .before .loop .inv in
-    let small = sums-small (s .pre .0) in
+    let small = sums-small (s .args .law) (s .pre .0) in
     let l = slope-small (i .0) small (c .before .before .before .before .before .before .slope-of .ensures) in (
       totals-cost-small small (c .total-up .ensures) (pass-finds (c .before .before .before .before .multiplier-pass .ensures) (i .0 .lo-plan) (lo-allowed (i .0)) .one) l,
       totals-cost-small small (i .0 .lo-totals) (lo-allowed (i .0)) l,
@@ -61,7 +61,7 @@ returns c =
     let s = c .before .before .before .before .before .before .before .before .before .before .before .before .before in
     let i = c .before .before .before .before .before .before .before .before .before .loop .inv in
     let p = c .before .before .before .before .before .before .multiplier-pass .ensures in
-    let l = slope-small (i .0) (sums-small (s .pre .0)) (c .before .before .before .before .before .before .before .before .slope-of .ensures) in
+    let l = slope-small (i .0) (sums-small (s .args .law) (s .pre .0)) (c .before .before .before .before .before .before .before .before .slope-of .ensures) in
     record {
       ended = slope-ends (i .0) (c .before .before .before .before .before .before .before .before .slope-of .ensures) (pass-finds p (i .0 .lo-plan) (lo-allowed (i .0))) (c .before .before .total-up .ensures) (sym (c .before .ties .ensures) ∙ c .if1 .taken);
       small-n = l .0;

@@ -1,9 +1,9 @@
 -- `seek::finish::finish` meets its contract: the settings of an allowed sequence are below Q, so the choices can be followed. Assumes nothing.
 use native.Mathlib.Omega.{arith}
 use Rattle.tables.specs.Tables.{series, table}
-use Rattle.tables.proofs.CellLaws.{product-small}
 use Rattle.tables.proofs.SeriesLaws.{kept-below}
-use Rattle.trellis.specs.Chosen.{chosen}
+use Rattle.trellis.specs.Choices.{chosen}
+use Rattle.seek.proofs.SeekLaws.{wipe-fits}
 use borrow.Author.Needs.{needs}
 use Rattle.seek.proofs.finish.finish.Statement.{statement}
 use Rattle.seek.proofs.finish.finish.Tie as tie
@@ -15,18 +15,13 @@ hand-over-requires : tie.Need-hand-over-requires
 hand-over-requires c κs =
     let s = c .before .before .before .before .before .before .before .before in
     let a = s .args in (
-      (s .pre .0 .0 .settings, (s .pre .0 .0 .room, s .pre .0 .1)),
+      (s .pre .0 .0 .scans, (s .pre .0 .0 .settings, (s .pre .0 .0 .room, s .pre .0 .1))),
       λ i h. kept-below (series (table (a .scans) (a .settings) (a .law) (a .rates .now) (a .distortions .now))) 0 0
           (chosen (a .settings) (a .scans) (a .scratch .now)) (s .pre .1 .1) i (omega (arith, s .pre .1 .0)),
     )
 
-mul-wipe : tie.Need-mul-wipe
-mul-wipe c =
-    let s = c .before .before .before .before .before .before .before .before .before .before .before .before in
-    omega (arith, product-small {a = s .args .scans} {b = s .args .settings} 1024 (s .pre .0 .0 .scans) (s .pre .0 .0 .settings))
-
 wipe-requires : tie.Need-wipe-requires
-wipe-requires c κs = c .before .before .before .before .before .before .before .before .before .before .before .before .pre .0 .0 .room
+wipe-requires c κs = wipe-fits (c .before .before .before .before .before .before .before .before .before .before .before .before .pre .0 .0)
 
 same-length : tie.Need-same-length
 same-length c = search needs
@@ -43,7 +38,6 @@ finish-spec =
     (tie.spec
     total-up-requires
     hand-over-requires
-    mul-wipe
     wipe-requires
     same-length
     same-length-2

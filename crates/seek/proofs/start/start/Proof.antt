@@ -1,8 +1,6 @@
 -- `seek::start::start` meets its contract: nothing fits where the least-rate plan does not. Assumes nothing.
-use native.Mathlib.Omega.{arith}
-use Rattle.tables.proofs.CellLaws.{product-small}
 use Rattle.seek.specs.Started.{fits, none-allowed, none-fits}
-use Rattle.seek.proofs.SeekLaws.{fit-framed, wiped-same, open-under, open-thriftiest, nothing-fits, thrifty-totals}
+use Rattle.seek.proofs.SeekLaws.{wipe-fits, fit-framed, wiped-same, open-under, open-thriftiest, nothing-fits, thrifty-totals}
 use mathlib.Core.Path.{_∙_}
 use borrow.Author.Tests.{not-true, not-false}
 use borrow.Author.Needs.{needs}
@@ -12,13 +10,8 @@ use Rattle.seek.proofs.start.start.Tie as tie
 thrifty-pass-requires : tie.Need-thrifty-pass-requires
 thrifty-pass-requires c κs = search needs
 
-mul-wipe : tie.Need-mul-wipe
-mul-wipe c =
-    let s = c .before .before .before .before .before .before .before .before .before in
-    omega (arith, product-small {a = s .args .scans} {b = s .args .settings} 1024 (s .pre .scans) (s .pre .settings))
-
 wipe-requires : tie.Need-wipe-requires
-wipe-requires c κs = fit-framed (c .before .before .before .before .before .before .before .before .before .pre) (c .before .before .before .before .thrifty-pass .ensures .framed) .room
+wipe-requires c κs = wipe-fits (fit-framed (c .before .before .before .before .before .before .before .before .before .pre) (c .before .before .before .before .thrifty-pass .ensures .framed))
 
 same-length : tie.Need-same-length
 same-length c = search needs
@@ -27,20 +20,15 @@ returns : tie.Need-returns
 returns c =
     let s = c .before .before .before .before .before .before .before .before .before .before .before .before in
     let p = c .before .before .before .before .before .before .before .thrifty-pass .ensures in
-    none-allowed (λ t a. p .none (not-true _ (c .before .before .before .before .if1 .taken)) t (open-under (s .pre) t a)) (c .before .before .wipe .ensures ∙ wiped-same (p .framed))
+    none-allowed (λ t a. p .none (not-true _ (c .before .before .before .before .if1 .taken)) t (open-under (s .args .law) (s .pre) t a)) (c .before .before .wipe .ensures ∙ wiped-same (p .framed))
 
 total-up-requires : tie.Need-total-up-requires
 total-up-requires c κs =
     let p = c .before .before .before .before .thrifty-pass .ensures in
     (fit-framed (c .before .before .before .before .before .before .before .before .before .pre) (p .framed), p .some (not-false _ (c .before .if1 .left)) .one .0)
 
-mul-wipe-2 : tie.Need-mul-wipe-2
-mul-wipe-2 c =
-    let s = c .before .before .before .before .before .before .before .before .before .before .before .before .before in
-    omega (arith, product-small {a = s .args .scans} {b = s .args .settings} 1024 (s .pre .scans) (s .pre .settings))
-
 wipe-requires-2 : tie.Need-wipe-requires-2
-wipe-requires-2 c κs = fit-framed (c .before .before .before .before .before .before .before .before .before .before .before .before .before .pre) (c .before .before .before .before .before .before .before .before .thrifty-pass .ensures .framed) .room
+wipe-requires-2 c κs = wipe-fits (fit-framed (c .before .before .before .before .before .before .before .before .before .before .before .before .before .pre) (c .before .before .before .before .before .before .before .before .thrifty-pass .ensures .framed))
 
 same-length-2 : tie.Need-same-length-2
 same-length-2 c = search needs
@@ -50,7 +38,7 @@ returns-2 c =
     let s = c .before .before .before .before .before .before .before .before .before .before .before .before .before .before .before .before in
     let p = c .before .before .before .before .before .before .before .before .before .before .before .thrifty-pass .ensures in
     let l = p .some (not-false _ (c .before .before .before .before .before .before .before .before .if1 .left)) in
-    none-fits (nothing-fits (open-thriftiest (s .pre) l) (c .before .before .before .before .before .before .total-up .ensures .rate) (c .before .before .before .before .if2 .taken)) (c .before .before .wipe2 .ensures ∙ wiped-same (p .framed))
+    none-fits (nothing-fits (open-thriftiest (s .args .law) (s .pre) l) (c .before .before .before .before .before .before .total-up .ensures .rate) (c .before .before .before .before .if2 .taken)) (c .before .before .wipe2 .ensures ∙ wiped-same (p .framed))
 
 same-length-3 : tie.Need-same-length-3
 same-length-3 c = search needs
@@ -60,19 +48,17 @@ returns-3 c =
     let s = c .before .before .before .before .before .before .before .before .before .before .before .before in
     let p = c .before .before .before .before .before .before .before .thrifty-pass .ensures in
     let l = p .some (not-false _ (c .before .before .before .before .if1 .left)) in
-    fits (thrifty-totals (open-thriftiest (s .pre) l) (c .before .before .total-up .ensures) (c .if2 .left)) (p .framed)
+    fits (thrifty-totals (open-thriftiest (s .args .law) (s .pre) l) (c .before .before .total-up .ensures) (c .if2 .left)) (p .framed)
 
 pub start-spec : {M : Type 1} → statement M
 start-spec =
     tie.close
     (tie.spec
     thrifty-pass-requires
-    mul-wipe
     wipe-requires
     same-length
     returns
     total-up-requires
-    mul-wipe-2
     wipe-requires-2
     same-length-2
     returns-2

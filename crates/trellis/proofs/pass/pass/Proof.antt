@@ -1,29 +1,32 @@
 -- `trellis::pass::pass` meets its contract: the scans after i are done, and scan 0 answers. Assumes nothing.
 use native.Mathlib.Omega.{arith}
 use borrow.Author.Needs.{needs}
-use mathlib.Core.Path.{_≡_, refl, sym, subst, _∙_}
-use Prim.Native.Nat.{ℕ, _+_, _-_, _*_, _≤_, _<_}
-use lib.ListN.{length, getD, length-set, getD-replicate}
-use lib.Seq.{getD-set-other}
-use Rattle.tables.proofs.CellLaws.{product-small, square-small, squares-small}
-use Rattle.trellis.specs.Step.{Sixteen}
-use Rattle.least.specs.Row.{Ready}
-use Rattle.laws.proofs.Lists.{part}
-use Rattle.trellis.proofs.PassLaws.{Done, done-none, done-more, ready, sixteen-zero, square-ends, some-room, pass-none, pass-some}
+use mathlib.Core.Path.{_≡_, refl, _∙_}
 use mathlib.Core.List.{[]}
+use Prim.Native.Nat.{ℕ, _+_, _-_, _*_, _≤_, _<_}
+use lib.ListN.{length, getD, getD-replicate}
+use Rattle.tables.specs.Tables.{Table, table, scratch-need}
+use Rattle.tables.proofs.CellLaws.{square-small, squares-small}
+use Rattle.trellis.specs.Square.{Sixteen}
+use Rattle.trellis.proofs.ChoiceLaws.{need-more}
+use Rattle.trellis.proofs.PassLaws.{Done, done-none, done-more, ready, sixteen-zero, square-ends, pass-none, pass-some}
 use Rattle.trellis.proofs.pass.pass.Statement.{statement}
 use Rattle.trellis.proofs.pass.pass.Tie as tie
 
 abbrev Inv-loop : tie.InvT-loop
 Inv-loop scans settings law rule rates distortions scratch₀ keys₀ rate-square₀ distortion-square₀ size i₀ scratch keys rate-square distortion-square i =
-    (i < scans) × ((length scratch ≡ length scratch₀) × (((j : ℕ) → scans * settings ≤ j → getD scratch j 0 ≡ getD scratch₀ j 0) ×
-    ((length keys ≡ 16) × (Sixteen rate-square × (Sixteen distortion-square × Done scans settings law rates distortions rule i scratch keys)))))
+    (i < scans) × ((length scratch ≡ length scratch₀) × (((j : ℕ) → scratch-need scans settings ≤ j → getD scratch j 0 ≡ getD scratch₀ j 0) ×
+    ((length keys ≡ 16) × (Sixteen rate-square × (Sixteen distortion-square × Done (table scans settings law rates distortions) rule i scratch keys)))))
 
 abbrev μ-loop : tie.MeasureT-loop
 μ-loop scans settings law rule rates distortions scratch₀ keys₀ rate-square₀ distortion-square₀ size i₀ scratch keys rate-square distortion-square i = i
 
+-- the table that is passed over
+abbrev over : tie.Start Inv-loop μ-loop → Table
+over s = table (s .args .scans) (s .args .settings) (s .args .law) (s .args .rates .now) (s .args .distortions .now)
+
 mul-size : tie.Need-mul-size Inv-loop μ-loop
-mul-size c = omega (arith, square-small {Q = c .before .before .before .args .settings} (c .before .before .before .pre .0 .settings))
+mul-size c = let s = c .before .before .before in omega (arith, square-small {Q = s .args .settings} (s .pre .0 .settings))
 
 sub-i : tie.Need-sub-i Inv-loop μ-loop
 sub-i c = search needs
@@ -32,22 +35,7 @@ loop-holds : tie.Need-loop-holds Inv-loop μ-loop
 loop-holds c =
     let s = c .before .before .before in (
       omega (arith, s .pre .0 .some-scans),
-      (
-        refl,
-        (
-          (λ j h. refl),
-          (
-            refl,
-            (
-              sixteen-zero,
-              (
-                sixteen-zero,
-                done-none _ _ _ _ _ _ (s .pre .0) (s .pre .1) _ _ _ refl (λ p h. getD-replicate 16 p 0 0 (omega (arith, s .pre .0 .settings))),
-              ),
-            ),
-          ),
-        ),
-      ),
+      (refl, ((λ j h. refl), (refl, (sixteen-zero, (sixteen-zero, done-none (over s) (s .args .rule) (s .pre .0) (s .pre .1) _ _ _ refl (λ p h. getD-replicate 16 p 0 0 (omega (arith, s .pre .0 .settings)))))))),
     )
 
 sub-at : tie.Need-sub-at Inv-loop μ-loop
@@ -85,27 +73,25 @@ square-into-requires-2 c κs =
       ),
     )
 
-mul-step : tie.Need-mul-step Inv-loop μ-loop
-mul-step c =
-    let s = c .before .before .before .before .before .before .before .before .before .before .before in
-    let l = c .before .before .before .before .before .before .before .loop in
-    omega (arith, product-small {a = l .i} {b = s .args .settings} 1024 (omega (arith, s .pre .0 .scans, l .inv .0)) (s .pre .0 .settings))
-
 step-requires : tie.Need-step-requires Inv-loop μ-loop
 step-requires c κs =
     let s = c .before .before .before .before .before .before .before .before .before .before .before in
     let a = s .args in
-    let l = c .before .before .before .before .before .before .before .loop in
-    let d = l .inv .1 .1 .1 .1 .1 .1 in
-    let e = part (a .settings) {j = l .i} {m = a .scans} (l .inv .0) in (
-      (s .pre .0 .settings, (omega (arith, e, s .pre .0 .room, l .inv .1 .0), l .inv .1 .1 .1 .0)),
+    let l = c .before .before .before .before .before .before .before .loop in (
+      (
+        s .pre .0 .settings,
+        (
+          omega (arith, l .inv .0, s .pre .0 .scans),
+          (omega (arith, need-more (a .scans) (a .settings) (l .i) (l .inv .0), s .pre .0 .room, l .inv .1 .0), l .inv .1 .1 .1 .0),
+        ),
+      ),
       (
         s .pre .1,
         λ p h.
-            ready (a .scans) (a .settings) (a .law) (a .rates .now) (a .distortions .now) (a .rule) (s .pre .0) (s .pre .1)
+            ready (over s) (a .rule) (s .pre .0) (s .pre .1)
             (getD (c .before .before .before .before .square-into .last .0) p []) (getD (c .before .before .square-into2 .last .0) p []) (l .keys)
             (λ q. a .settings + (l .i - 1) * (a .settings * a .settings) + p * a .settings + q)
-            (c .before .before .before .before .square-into .ensures .1 p h) (c .before .before .square-into2 .ensures .1 p h) (d .row .capped),
+            (c .before .before .before .before .square-into .ensures .1 p h) (c .before .before .square-into2 .ensures .1 p h) (l .inv .1 .1 .1 .1 .1 .1 .row .capped),
       ),
     )
 
@@ -120,21 +106,19 @@ loop-again c =
     let s = c .before .before .before .before .before .before .before .before .before .before .before .before .before .before in
     let a = s .args in
     let l = c .before .before .before .before .before .before .before .before .before .before .loop in
-    let t = c .before .before .before .before .before .before .before .before .before .loop-test .taken in
-    let w = c .before .before .step .ensures in
-    let e = part (a .settings) {j = l .i} {m = a .scans} (l .inv .0) in (
+    let w = c .before .before .step .ensures in (
       omega (arith, l .inv .0),
       (
         w .long ∙ l .inv .1 .0,
         (
-          (λ j h. w .above j (omega arith) ∙ l .inv .1 .1 .0 j h),
+          (λ j h. w .beyond (a .scans) j (l .inv .0) h ∙ l .inv .1 .1 .0 j h),
           (
             w .keys-long,
             (
               c .before .before .before .before .before .before .before .square-into .ensures .0,
               (
                 c .before .before .before .before .before .square-into2 .ensures .0,
-                done-more (a .scans) (a .settings) (a .law) (a .rates .now) (a .distortions .now) (a .rule) (s .pre .0) (s .pre .1) t
+                done-more (over s) (a .rule) (s .pre .0) (s .pre .1) (c .before .before .before .before .before .before .before .before .before .loop-test .taken)
                     (c .before .before .before .before .before .before .before .square-into .ensures .1) (c .before .before .before .before .before .square-into2 .ensures .1) w (omega arith) (l .inv .1 .1 .1 .1 .1 .1),
               ),
             ),
@@ -144,70 +128,63 @@ loop-again c =
     )
 
 row-into-requires : tie.Need-row-into-requires Inv-loop μ-loop
-row-into-requires c κs =
-    let s = c .before .before .before .before .before .before in
-    (s .pre .0 .settings, (omega (arith, s .pre .0 .rates-long), refl))
+row-into-requires c κs = let s = c .before .before .before .before .before .before in (s .pre .0 .settings, (omega (arith, s .pre .0 .rates-long), refl))
 
 row-into-requires-2 : tie.Need-row-into-requires-2 Inv-loop μ-loop
-row-into-requires-2 c κs =
-    let s = c .before .before .before .before .before .before .before .before in
-    (s .pre .0 .settings, (omega (arith, s .pre .0 .distortions-long), refl))
+row-into-requires-2 c κs = let s = c .before .before .before .before .before .before .before .before in (s .pre .0 .settings, (omega (arith, s .pre .0 .distortions-long), refl))
 
-to-requires : tie.Need-to-requires Inv-loop μ-loop
-to-requires c κs = let s = c .before .before .before .before .before .before .before .before .before in (omega (arith, s .pre .0 .some-settings), s .pre .0 .settings)
+all-requires : tie.Need-all-requires Inv-loop μ-loop
+all-requires c κs = search needs
 
 pick-requires : tie.Need-pick-requires Inv-loop μ-loop
 pick-requires c κs =
     let s = c .before .before .before .before .before .before .before .before .before .before .before .before .before .before in
     let a = s .args in
     let l = c .before .before .before .before .before .before .before .before .before .before .loop in
-    let e : c .before .before .before .before .to .result ≡ a .settings = c .before .before .before .before .to .ensures in (
-      (omega (arith, e), omega (arith, e, s .pre .0 .settings)),
+    let z = c .before .before .before .before .all .ensures in (
+      (omega (arith, z .0, z .1), omega (arith, z .1, s .pre .0 .settings)),
       (
         s .pre .1,
         (
-          subst
-              (λ (k : ℕ).
-              Ready k (c .before .before .before .before .before .before .before .row-into .last .0) (c .before .before .before .before .before .row-into2 .last .0) (l .keys))
-              (sym e)
-              (ready (a .scans) (a .settings) (a .law) (a .rates .now) (a .distortions .now) (a .rule) (s .pre .0) (s .pre .1)
-              (c .before .before .before .before .before .before .before .row-into .last .0) (c .before .before .before .before .before .row-into2 .last .0) (l .keys) (λ q. 0 + q)
+          rw (z .1)
+              (ready (over s) (a .rule) (s .pre .0) (s .pre .1) (c .before .before .before .before .before .before .before .row-into .last .0) (c .before .before .before .before .before .row-into2 .last .0) (l .keys) (λ q. 0 + q)
               (c .before .before .before .before .before .before .before .row-into .ensures .1) (c .before .before .before .before .before .row-into2 .ensures .1) (l .inv .1 .1 .1 .1 .1 .1 .row .capped)),
           refl,
         ),
       ),
     )
 
-cast-scratch : tie.Need-cast-scratch Inv-loop μ-loop
-cast-scratch c = omega (arith, c .before .pick .ensures .1 .inside, c .before .before .before .before .before .before .before .before .before .before .before .before .before .before .before .before .pre .0 .settings)
-
-slice-write-scratch : tie.Need-slice-write-scratch Inv-loop μ-loop
-slice-write-scratch c =
+store-requires : tie.Need-store-requires Inv-loop μ-loop
+store-requires c κs =
     let s = c .before .before .before .before .before .before .before .before .before .before .before .before .before .before .before .before in
-    omega (arith, some-room (s .pre .0), s .pre .0 .room, c .before .before .before .before .before .before .before .before .before .before .before .before .loop .inv .1 .0)
+    let l = c .before .before .before .before .before .before .before .before .before .before .before .before .loop in (
+      (s .pre .0 .settings, (omega arith, s .pre .0 .some-settings)),
+      (
+        omega (arith, c .before .pick .ensures .1 .inside, c .before .before .before .before .before .before .all .ensures .1, s .pre .0 .settings),
+        omega (arith, need-more (s .args .scans) (s .args .settings) 0 (s .pre .0 .some-scans), s .pre .0 .room, l .inv .1 .0),
+      ),
+    )
 
 same-length : tie.Need-same-length Inv-loop μ-loop
-same-length c = simp length-set (c .before .before .before .before .before .before .before .before .before .before .before .before .before .loop .inv .1 .0)
+same-length c = c .before .before .before .store .ensures .long ∙ c .before .before .before .before .before .before .before .before .before .before .before .before .before .before .before .before .loop .inv .1 .0
 
 returns : tie.Need-returns Inv-loop μ-loop
 returns c =
-    let s = c .before .before .before .before .before .before .before .before .before .before .before .before .before .before .before .before .before in
+    let s = c .before .before .before .before .before .before .before .before .before .before .before .before .before .before .before .before .before .before .before .before in
     let a = s .args in
-    let l = c .before .before .before .before .before .before .before .before .before .before .before .before .before .loop in
-    let e : l .i ≡ 0 = omega (arith, c .before .before .before .before .before .before .before .before .before .before .before .before .loop-test .left) in
+    let l = c .before .before .before .before .before .before .before .before .before .before .before .before .before .before .before .before .loop in
+    let e : l .i ≡ 0 = omega (arith, c .before .before .before .before .before .before .before .before .before .before .before .before .before .before .before .loop-test .left) in
     let d = rw e at (l .inv .1 .1 .1 .1 .1 .1) in
-    let room : 0 < length (l .scratch) = omega (arith, some-room (s .pre .0), s .pre .0 .room, l .inv .1 .0) in
-    let rs = c .before .before .before .before .before .before .before .before .before .before .row-into .last .0 in
-    let ds = c .before .before .before .before .before .before .before .before .row-into2 .last .0 in
-    let f : c .before .before .before .before .before .before .before .to .result ≡ a .settings = c .before .before .before .before .before .before .before .to .ensures in
-    let b = rw f at (c .before .before .pick .ensures .1) in
+    let w = c .before .before .before .store .ensures in
+    let z = c .before .before .before .before .before .before .before .before .before .before .all .ensures in
+    let b = rw (z .0, z .1) at (c .before .before .before .before .before .pick .ensures .1) in
+    let rs = c .before .before .before .before .before .before .before .before .before .before .before .before .before .row-into in
+    let ds = c .before .before .before .before .before .before .before .before .before .before .before .row-into2 in
     record {
-      none = pass-none (a .scans) (a .settings) (a .law) (a .rates .now) (a .distortions .now) (a .rule) (s .pre .0) (s .pre .1) rs ds d room
-          (c .before .before .before .before .before .before .before .before .before .before .row-into .ensures .1) (c .before .before .before .before .before .before .before .before .row-into2 .ensures .1) b;
-      some = pass-some (a .scans) (a .settings) (a .law) (a .rates .now) (a .distortions .now) (a .rule) (s .pre .0) (s .pre .1) rs ds d room
-          (c .before .before .before .before .before .before .before .before .before .before .row-into .ensures .1) (c .before .before .before .before .before .before .before .before .row-into2 .ensures .1) b;
-      long = simp length-set (l .inv .1 .0);
-      rest = λ j h. getD-set-other (l .scratch) 0 j _ 0 (λ z. omega (arith, some-room (s .pre .0))) ∙ l .inv .1 .1 .0 j h;
+      none = pass-none (over s) (a .rule) (s .pre .0) (s .pre .1) (rs .last .0) (ds .last .0) d w (rs .ensures .1) (ds .ensures .1) b;
+      some = pass-some (over s) (a .rule) (s .pre .0) (s .pre .1) (rs .last .0) (ds .last .0) d w (rs .ensures .1) (ds .ensures .1) b;
+      long = w .long ∙ l .inv .1 .0;
+      rest = λ j h. w .beyond (a .scans) j (s .pre .0 .some-scans) h ∙ l .inv .1 .1 .0 j h;
     }
 
 pub pass-spec : {M : Type 1} → statement M
@@ -224,16 +201,14 @@ pass-spec =
     add-at
     square-into-requires
     square-into-requires-2
-    mul-step
     step-requires
     sub-i-2
     loop-less
     loop-again
     row-into-requires
     row-into-requires-2
-    to-requires
+    all-requires
     pick-requires
-    cast-scratch
-    slice-write-scratch
+    store-requires
     same-length
     returns)

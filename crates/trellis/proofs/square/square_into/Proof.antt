@@ -5,7 +5,7 @@ use mathlib.Core.Path.{_≡_}
 use mathlib.Core.List.{[]}
 use Prim.Native.Nat.{ℕ, _+_, _-_, _*_, _≤_, _<_}
 use lib.ListN.{getD}
-use Rattle.trellis.specs.Step.{Sixteen}
+use Rattle.trellis.specs.Square.{Sixteen}
 use Rattle.laws.proofs.Lists.{part}
 use Rattle.trellis.proofs.SquareLaws.{sixteen-more, rows-more}
 use Rattle.trellis.proofs.square.square_into.Statement.{statement}

@@ -9,32 +9,32 @@ use Rattle.workbench.proofs.lines.planned.Statement.{statement}
 use Rattle.workbench.proofs.lines.planned.Tie as tie
 
 -- N is in range
-small : (c : tie.After-wide) → c .wide .result ≤ 1024
-small c = let f = c .before .before .before .before .pre .0 .1 in omega (arith, in-range (f .scans-in), c .wide .ensures .0)
+small : (c : tie.After-cell-to-number) → c .cell-to-number .result ≤ 1024
+small c = let f = c .before .before .before .before .pre .0 .1 in omega (arith, in-range (f .scans-in), c .cell-to-number .ensures .0)
 
-shared-slice-read-wide : tie.Need-shared-slice-read-wide
-shared-slice-read-wide c = search needs
+shared-slice-read-cell-to-number : tie.Need-shared-slice-read-cell-to-number
+shared-slice-read-cell-to-number c = search needs
 
-wide-requires : tie.Need-wide-requires
-wide-requires c κs = search needs
+cell-to-number-requires : tie.Need-cell-to-number-requires
+cell-to-number-requires c κs = search needs
 
-shared-slice-read-wide-2 : tie.Need-shared-slice-read-wide-2
-shared-slice-read-wide-2 c = search needs
+shared-slice-read-cell-to-number-2 : tie.Need-shared-slice-read-cell-to-number-2
+shared-slice-read-cell-to-number-2 c = search needs
 
-wide-requires-2 : tie.Need-wide-requires-2
-wide-requires-2 c κs = search needs
+cell-to-number-requires-2 : tie.Need-cell-to-number-requires-2
+cell-to-number-requires-2 c κs = search needs
 
-shared-slice-read-wide-3 : tie.Need-shared-slice-read-wide-3
-shared-slice-read-wide-3 c = search needs
+shared-slice-read-cell-to-number-3 : tie.Need-shared-slice-read-cell-to-number-3
+shared-slice-read-cell-to-number-3 c = search needs
 
-wide-requires-3 : tie.Need-wide-requires-3
-wide-requires-3 c κs = search needs
+cell-to-number-requires-3 : tie.Need-cell-to-number-requires-3
+cell-to-number-requires-3 c κs = search needs
 
-shared-slice-read-wide-4 : tie.Need-shared-slice-read-wide-4
-shared-slice-read-wide-4 c = search needs
+shared-slice-read-cell-to-number-4 : tie.Need-shared-slice-read-cell-to-number-4
+shared-slice-read-cell-to-number-4 c = search needs
 
-wide-requires-4 : tie.Need-wide-requires-4
-wide-requires-4 c κs = search needs
+cell-to-number-requires-4 : tie.Need-cell-to-number-requires-4
+cell-to-number-requires-4 c κs = search needs
 
 add-middle : tie.Need-add-middle
 add-middle c = search needs
@@ -84,22 +84,22 @@ returns c =
     let read = second .before .before in
     let start = read .before .before .before .before in
     planned-put
-    (read-asked (now (start .args .numbers)) (start .args .cells) (read .wide .ensures .0) (second .wide2 .ensures .0) (third .wide3 .ensures .0)
-    (fourth .wide4 .ensures .0))
+    (read-asked (now (start .args .numbers)) (start .args .cells) (read .cell-to-number .ensures .0) (second .cell-to-number2 .ensures .0) (third .cell-to-number3 .ensures .0)
+    (fourth .cell-to-number4 .ensures .0))
     (first .average-at .ensures) (c .before .before .minmax-at .ensures) (start .pre .1)
 
 pub planned-spec : {M : Type 1} → statement M
 planned-spec =
     tie.close
     (tie.spec
-    shared-slice-read-wide
-    wide-requires
-    shared-slice-read-wide-2
-    wide-requires-2
-    shared-slice-read-wide-3
-    wide-requires-3
-    shared-slice-read-wide-4
-    wide-requires-4
+    shared-slice-read-cell-to-number
+    cell-to-number-requires
+    shared-slice-read-cell-to-number-2
+    cell-to-number-requires-2
+    shared-slice-read-cell-to-number-3
+    cell-to-number-requires-3
+    shared-slice-read-cell-to-number-4
+    cell-to-number-requires-4
     add-middle
     add-end
     sub-rates

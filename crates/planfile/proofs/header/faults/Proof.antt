@@ -1,0 +1,34 @@
+-- `planfile::header::faults` meets its contract. Assumes nothing.
+use denote.Ref.{now}
+use Rattle.planfile.proofs.HeaderLaws.{told-faults}
+use borrow.Author.Needs.{needs}
+use Rattle.planfile.proofs.header.faults.Statement.{statement}
+use Rattle.planfile.proofs.header.faults.Tie as tie
+
+other-letters-requires : tie.Need-other-letters-requires
+other-letters-requires c κs = search needs
+
+wrong-length-requires : tie.Need-wrong-length-requires
+wrong-length-requires c κs = search needs
+
+not-zero-requires : tie.Need-not-zero-requires
+not-zero-requires c κs = search needs
+
+not-zero-requires-2 : tie.Need-not-zero-requires-2
+not-zero-requires-2 c κs = search needs
+
+returns : tie.Need-returns
+returns c =
+    let a = c .before .before .before .before .before .args in
+    told-faults (now (a .file)) (a .scans) (c .before .before .before .before .before .pre .1) (c .before .before .before .other-letters .ensures)
+    (c .before .before .wrong-length .ensures) (c .before .not-zero .ensures) (c .not-zero2 .ensures)
+
+pub faults-spec : {M : Type 1} → statement M
+faults-spec =
+    tie.close
+    (tie.spec
+    other-letters-requires
+    wrong-length-requires
+    not-zero-requires
+    not-zero-requires-2
+    returns)

@@ -1,0 +1,75 @@
+-- 8 exactly when no sequence is allowed, and 9 exactly when some is and none is within the limit. Assumes nothing.
+use mathlib.Core.Path.{_≡_, sym, ap, _∙_}
+use mathlib.Core.Logic.{_↔_}
+use mathlib.Core.Option.{none}
+use mathlib.Core.List.{List}
+use Prim.Native.Nat.{ℕ}
+use native.Mathlib.Omega.{arith}
+use Rattle.criteria.specs.Choice.{Multiplier, NoneAllowed, NoneWithin}
+use Rattle.tables.specs.declared.refusal.Refusal.{Refusal}
+use Rattle.tables.specs.declared.refusal.Refusal.the-variants as refusal
+use Rattle.tables.specs.Refusals.{Reply, refused, numberOf}
+use Rattle.checks.specs.Planning.{Asked, Unsound, early, illegal, Sound, problem-of, fourth-check, multiplier-out}
+use Rattle.tables.proofs.RefusalLaws.{refused-unique, answered-or-refused}
+use Rattle.laws.proofs.Tests.{never}
+use Rattle.promise.specs.Promise.{Promise, unsound, no-sequence, none-within, planned}
+use Rattle.checks.proofs.PlanningLaws.{sound-or-not, early-gives}
+use mathlib.Core.Option.{Option}
+use Prim.Native.Nat.{_≤_}
+use Rattle.checks.proofs.GiveLaws.{Gives, given, gives-when}
+use mathlib.Core.Option.{Option, none}
+
+-- a refusal of the checks 1 to 7: neither 8 nor 9
+abbrev pub Early : Refusal → Type 0
+Early r = (numberOf r ≡ 8 → ⊥) × (numberOf r ≡ 9 → ⊥)
+
+-- where the further check gives neither, no check of 1 to 7 does
+unsound-early : {further : Option Refusal} {a : Asked} {r : Refusal} → Gives Early further → Unsound further a r → Early r
+unsound-early {further} {a} {r} f (early e) =
+    given Early (early-gives Early further a (low 1 (omega arith)) (low 2 (omega arith)) (low 3 (omega arith)) f (low 5 (omega arith)) (low 6 (omega arith))) e
+  where
+    low : (k : ℕ) → k ≤ 6 → (k ≡ 8 → ⊥) × (k ≡ 9 → ⊥)
+    low k h = (λ z. omega arith, λ z. omega arith)
+unsound-early f (illegal e l) = (λ z. omega arith, λ z. omega arith)
+
+-- so it is of the calls that have no further check, and of check 4
+pub none-early : Gives Early none
+none-early = tt
+
+pub fourth-early : (n d : ℕ) → Gives Early (fourth-check n d)
+fourth-early n d = gives-when Early (multiplier-out n d) refusal.Multiplier (λ z. omega arith, λ z. omega arith)
+
+-- 8 exactly when no sequence is allowed, and 9 exactly when some is and none is within, of questions that pass the checks 1 to 7
+module _ {further : Option Refusal} {a : Asked} {within : List ℕ → Type 0} {Plan : List ℕ → List ℕ → Type 0} {plan scratch p s : List ℕ} {reply : Reply}
+    (neither : Gives Early further) (is-within : (s v : List ℕ) → Plan s v → problem-of a .allowed s × within s) (promise : Promise further a within Plan plan scratch reply p s) where
+  pub eight-exactly : (reply ≡ refused refusal.NoSequence) ↔ (Sound further a × NoneAllowed (problem-of a))
+  eight-exactly = (to promise, fro promise)
+    where
+      to : Promise further a within Plan plan scratch reply p s → reply ≡ refused refusal.NoSequence → Sound further a × NoneAllowed (problem-of a)
+      to (unsound {r = r} u e f g) h =
+          let z : r ≡ refusal.NoSequence = refused-unique (sym e ∙ h) in absurd (unsound-early neither u .0 (ap numberOf z))
+      to (no-sequence o n e f g) h = (o, n)
+      to (none-within o n e f g) h = let z : refusal.NoneWithin ≡ refusal.NoSequence = refused-unique (sym e ∙ h) in never (cc)
+      to (planned o t v q e f g) h = absurd (answered-or-refused refusal.NoSequence (sym e ∙ h))
+
+      fro : Promise further a within Plan plan scratch reply p s → Sound further a × NoneAllowed (problem-of a) → reply ≡ refused refusal.NoSequence
+      fro (unsound u e f g) h = absurd (sound-or-not u (h .0))
+      fro (no-sequence o n e f g) h = e
+      fro (none-within o n e f g) h = absurd (h .1 (n .exist .0) (n .exist .1))
+      fro (planned o t v q e f g) h = absurd (h .1 t (is-within t v q .0))
+
+  pub nine-exactly : (reply ≡ refused refusal.NoneWithin) ↔ (Sound further a × NoneWithin (problem-of a) within)
+  nine-exactly = (to promise, fro promise)
+    where
+      to : Promise further a within Plan plan scratch reply p s → reply ≡ refused refusal.NoneWithin → Sound further a × NoneWithin (problem-of a) within
+      to (unsound {r = r} u e f g) h =
+          let z : r ≡ refusal.NoneWithin = refused-unique (sym e ∙ h) in absurd (unsound-early neither u .1 (ap numberOf z))
+      to (no-sequence o n e f g) h = let z : refusal.NoSequence ≡ refusal.NoneWithin = refused-unique (sym e ∙ h) in never (cc)
+      to (none-within o n e f g) h = (o, n)
+      to (planned o t v q e f g) h = absurd (answered-or-refused refusal.NoneWithin (sym e ∙ h))
+
+      fro : Promise further a within Plan plan scratch reply p s → Sound further a × NoneWithin (problem-of a) within → reply ≡ refused refusal.NoneWithin
+      fro (unsound u e f g) h = absurd (sound-or-not u (h .0))
+      fro (no-sequence o n e f g) h = absurd (n (h .1 .exist .0) (h .1 .exist .1))
+      fro (none-within o n e f g) h = e
+      fro (planned o t v q e f g) h = absurd (h .1 .none-within t (is-within t v q .1))

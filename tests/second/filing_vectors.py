@@ -1,0 +1,45 @@
+"""The vectors of filing: what crates/filing_cases, which reads nothing, must write. Each line is a planning call on table T or U; where it
+gives a plan, the plan's fields go through the writer of planfile.py, and the line shows the file buffer."""
+
+import planfile
+from buffers import pattern
+from crate_files import store
+from lines import line
+from plan_worked import T, U
+from planner import AVERAGE, MINMAX, ByTryingAll, answer
+
+# where the pattern of the file buffer starts, and its length
+START, ROOM = 13, 1029
+
+
+def average_fields(budget, values):
+    n, d, rate, distortion, peak, floor = values
+    return {"kind": 0, "budget": budget, "n": n, "d": d, "rate": rate, "distortion": distortion, "peak": peak, "floor": floor}
+
+
+def minmax_fields(budget, values):
+    _, rate, distortion, peak = values
+    return {"kind": 1, "budget": budget, "n": 0, "d": 0, "rate": rate, "distortion": distortion, "peak": peak, "floor": 0}
+
+
+def filed(table, call, budget, fields):
+    scans, settings, law, rates, distortions = table
+    number, values, plan, _ = answer(ByTryingAll, call, scans, settings, law, (budget, 0), rates, distortions, bytes(2), bytes(4))
+    if number != 0:
+        return line(number, values)
+    told = dict(scans=scans, settings=settings, law=law, **fields(budget, values))
+    number, values, content = planfile.write(told, plan, pattern(ROOM, START))
+    return line(number, values, ("b", content, START))
+
+
+def cases():
+    for table, budgets in ((T, (8, 9, 12, 13, 17, 18)), (U, (1, 7, 9))):
+        for budget in budgets:
+            yield filed(table, AVERAGE, budget, average_fields)
+            yield filed(table, MINMAX, budget, minmax_fields)
+
+
+def make(into):
+    stdout = "".join(cases()).encode()
+    store(into, "filing_cases", None, stdout)
+    print("plans filed %d" % stdout.count(b"\n"))
