@@ -11,7 +11,7 @@ use Rattle.laws.proofs.Tests.{neither, never}
 use Rattle.legal.specs.declared.Legality.{Legality}
 use Rattle.legal.specs.declared.Legality.the-variants.{Legal, Illegal}
 use Rattle.legal.specs.Judged.{Judged}
-use Rattle.legal.proofs.LegalLaws.{lowest-unique, not-both}
+use Rattle.legal.proofs.LegalLaws.{lowest-illegal-unique, not-both}
 use Rattle.tables.specs.declared.refusal.Refusal.{Refusal}
 use Rattle.tables.specs.declared.refusal.Refusal.the-variants as refusal
 use Rattle.tables.specs.Limits.{most-scans, most-settings, most-term}
@@ -150,7 +150,7 @@ module _ {further : Option Refusal} {a : Asked} where
   unsound-unique (early e) (early e′) = cc
   unsound-unique (early e) (illegal e′ l) = never (cc)
   unsound-unique (illegal e l) (early e′) = never (cc)
-  unsound-unique (illegal e l) (illegal e′ l′) = ap refusal.Cell (lowest-unique (a .rates) (a .distortions) l l′)
+  unsound-unique (illegal e l) (illegal e′ l′) = ap refusal.Cell (lowest-illegal-unique (a .rates) (a .distortions) l l′)
 
   pub sound-or-not : {r : Refusal} → Unsound further a r → Sound further a → ⊥
   sound-or-not (early e) s = let p = s .passed in never (cc)

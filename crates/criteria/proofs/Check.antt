@@ -34,9 +34,9 @@ abbrev pub given : {A : Type 0} → Dec A → Option A
 given (yes a) = some a
 given (no h) = none
 
-abbrev pub or-else : {A : Type 0} → Option A → Option A → Option A
-or-else none r = r
-or-else (some a) r = some a
+abbrev pub or-try : {A : Type 0} → Option A → Option A → Option A
+or-try none r = r
+or-try (some a) r = some a
 
 -- A where it is asked for
 abbrev pub if-any : {A C : Type 0} → Dec C → Option A → Option (C → A)
@@ -50,10 +50,10 @@ for-each {A} (x ∷ l) f = with (with (some (λ a g t. member A a (g t))) (f x))
 
 abbrev pub for-one : {A : Type 0} (l : List (List ℕ)) → ((t : List ℕ) → Option A) → Option A
 for-one [] f = none
-for-one (x ∷ l) f = or-else (f x) (for-one l f)
+for-one (x ∷ l) f = or-try (f x) (for-one l f)
 
 abbrev pub then? : {P : Type 0} (a b : ℕ) → Option P → Option (Then a b P)
-then? a b r = or-else (with (some lower) (given (decLt a b))) (with (with (some tie) (given (ℕ-discrete a b))) r)
+then? a b r = or-try (with (some lower) (given (decLt a b))) (with (with (some tie) (given (ℕ-discrete a b))) r)
 
 abbrev pub first? : (s t : List ℕ) → Option (First s t)
 first? [] t = some tt
@@ -95,7 +95,7 @@ module _ (P : Problem) (fin : Finite P) where
 
   abbrev pub certificate? : (n d B : ℕ) (s : List ℕ) → Option (Certificate P n d B s)
   certificate? n d B s =
-      or-else (with (some at-zero) (given (ℕ-discrete n 0)))
+      or-try (with (some at-zero) (given (ℕ-discrete n 0)))
       (for-one (fin .all) (λ t.
       with (with (with (some (tied t)) (given (fin .decide t))) (given (decLt B (P .rate t)))) (given (ℕ-discrete (cost P n d t) (cost P n d s)))))
 

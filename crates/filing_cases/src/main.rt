@@ -54,7 +54,10 @@ fn average(scans: u64, settings: u64, budget: u64, rates: &[u32], distortions: &
         &mut scratch,
     );
     match answer {
-        AverageAnswer::Planned(m) => put_filed(average_fields(scans, settings, 0, budget, m), &plan),
+        AverageAnswer::Planned(m) => put_filed(
+            average_fields(scans, settings, 0, budget, m),
+            &plan,
+        ),
         AverageAnswer::Refused(r) => {
             put_refusal(r);
             end_line();

@@ -55,15 +55,15 @@ module _ (n d k r g r₀ n₀ x y : ℕ) (some : 1 ≤ d) (whole : k * n + r ≡
   }
 
 -- the sizes on the way
-pub record Room (d k r₀ n₀ x y : ℕ) : Type 0 where
+pub record Sizes (d k r₀ n₀ x y : ℕ) : Type 0 where
   pub whole : k * n₀ + r₀ ≤ d
   pub left : x + k * y ≤ k * n₀ + r₀
 
 divided : (n d : ℕ) → d / n * n + d % n ≡ d
 divided n d = omega (arith, mod-add-div' d n)
 
-pub room : (d : ℕ) {n g r₀ n₀ x y : ℕ} → 1 ≤ d → Beside (d % n) n g r₀ n₀ x y → Room d (d / n) r₀ n₀ x y
-room d {n} {g} {r₀} {n₀} {x} {y} h b = record {
+pub sizes : (d : ℕ) {n g r₀ n₀ x y : ℕ} → 1 ≤ d → Beside (d % n) n g r₀ n₀ x y → Sizes d (d / n) r₀ n₀ x y
+sizes d {n} {g} {r₀} {n₀} {x} {y} h b = record {
   whole = whole-fits n d (d / n) (d % n) g r₀ n₀ x y h (divided n d) b;
   left = left-fits n d (d / n) (d % n) g r₀ n₀ x y h (divided n d) b;
 }
@@ -89,13 +89,13 @@ lowest-small {n} {d} {g} {n₀} {d₀} h b =
     (omega (arith, b .over, mul-le-mul-right n₀ p), omega (arith, b .under, mul-le-mul-right d₀ p))
 
 -- s steps in the greater of the lowest terms
-pub data Chosen (n₀ d₀ n′ d′ s : ℕ) : Type 0 where
-  by-d : n₀ < d₀ → Raised d′ d₀ s → Chosen n₀ d₀ n′ d′ s
-  by-n : d₀ ≤ n₀ → Raised n′ n₀ s → Chosen n₀ d₀ n′ d′ s
+pub data GreaterRaised (n₀ d₀ n′ d′ s : ℕ) : Type 0 where
+  by-d : n₀ < d₀ → Raised d′ d₀ s → GreaterRaised n₀ d₀ n′ d′ s
+  by-n : d₀ ≤ n₀ → Raised n′ n₀ s → GreaterRaised n₀ d₀ n′ d′ s
 
-pub weighed : {n d g n₀ d₀ n′ d′ s : ℕ} → n ≤ most-term → 1 ≤ d → d ≤ most-term → Beside n d g n₀ d₀ n′ d′ → Chosen n₀ d₀ n′ d′ s →
+pub weighed-by : {n d g n₀ d₀ n′ d′ s : ℕ} → n ≤ most-term → 1 ≤ d → d ≤ most-term → Beside n d g n₀ d₀ n′ d′ → GreaterRaised n₀ d₀ n′ d′ s →
     Weighed n d (d′ + s * d₀) (n′ + s * n₀)
-weighed {n} {d} {g} {n₀} {d₀} {n′} {d′} {s} hn h hd b (by-d l r) =
+weighed-by {n} {d} {g} {n₀} {d₀} {n′} {d′} {s} hn h hd b (by-d l r) =
     let f = lowest-small h b in
     let e : (n′ + s * n₀) * d₀ ≡ n₀ * (d′ + s * d₀) + 1 = omega (arith, b .beside) in
     let m : n′ + s * n₀ ≤ d′ + s * d₀ + 1 = le-of-mul-le-mul-left {k = d₀} (omega (arith, e, mul-le-mul-right {m = n₀} {n = d₀} (d′ + s * d₀) (omega arith))) (omega arith) in
@@ -104,7 +104,7 @@ weighed {n} {d} {g} {n₀} {d₀} {n′} {d′} {s} hn h hd b (by-d l r) =
       small-a = omega (arith, r .near);
       small-b = omega (arith, r .near, m);
     }
-weighed {n} {d} {g} {n₀} {d₀} {n′} {d′} {s} hn h hd b (by-n l r) =
+weighed-by {n} {d} {g} {n₀} {d₀} {n′} {d′} {s} hn h hd b (by-n l r) =
     let f = lowest-small h b in
     let e : (n′ + s * n₀) * d₀ ≡ n₀ * (d′ + s * d₀) + 1 = omega (arith, b .beside) in
     let m : d′ + s * d₀ < n′ + s * n₀ = lt-of-mul-lt-mul-left n₀ (omega (arith, e, mul-le-mul-left {m = d₀} {n = n₀} (n′ + s * n₀) l)) in

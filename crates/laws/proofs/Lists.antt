@@ -27,8 +27,8 @@ stored-more d x l q v h e f r g m = at (ℕ-discrete r q)
     at (no z) = getD-set-other l q r v d z ∙ f r g (omega arith)
 
 -- part j of m parts of k ends within them
-pub part : (k : ℕ) {j m : ℕ} → j < m → j * k + k ≤ m * k
-part k {j} {m} h = rw suc-mul at (mul-le-mul-right k h)
+pub part-inside : (k : ℕ) {j m : ℕ} → j < m → j * k + k ≤ m * k
+part-inside k {j} {m} h = rw suc-mul at (mul-le-mul-right k h)
 
 -- w is copied over d from the front, one element more
 copy-suc : (i : ℕ) (w d : List ℕ) → i < length w → i < length d →

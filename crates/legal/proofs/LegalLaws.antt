@@ -33,8 +33,8 @@ module _ (rates distortions : List ℕ) where
   walked-all w h j g =
       (w .rates-before j (omega (arith, w .within)), w .before j (omega (arith, w .within)))
 
-  pub lowest-unique : {k k′ : ℕ} → LowestIllegal rates distortions k → LowestIllegal rates distortions k′ → k ≡ k′
-  lowest-unique {k} {k′} p q = by-order (decLt k k′) (decLt k′ k)
+  pub lowest-illegal-unique : {k k′ : ℕ} → LowestIllegal rates distortions k → LowestIllegal rates distortions k′ → k ≡ k′
+  lowest-illegal-unique {k} {k′} p q = by-order (decLt k k′) (decLt k′ k)
     where
       by-order : Dec (k < k′) → Dec (k′ < k) → k ≡ k′
       by-order (yes h) g = absurd (p .illegal (q .lowest k h))

@@ -1,20 +1,16 @@
 -- Text after text in a lent buffer. Assumes nothing.
 use mathlib.Core.Path.{_≡_, ap, _∙_}
 use mathlib.Core.List.{List, _++_}
-use Prim.Native.Nat.{ℕ, _+_, _≤_}
+use Prim.Native.Nat.{ℕ, _+_}
 use native.Mathlib.Omega.{arith}
 use lib.ListN.{length, length-append}
 use lib.Seq.{sets}
 use Rattle.laws.proofs.Stores.{sets-append}
-use Rattle.printing.specs.Parts.{Put}
+use Rattle.printing.specs.Put.{Put}
 
 -- what `put` ensures
 pub put-so : {d o : List ℕ} {at r : ℕ} (t : List ℕ) → (r ≡ at + length t) × (o ≡ sets d at t) → Put d at t o r
 put-so t p = record { so = p .1; end = p .0 }
-
--- and the other way, with a bound of the place after it
-pub so-put : {o t : List ℕ} {r most : ℕ} (d : List ℕ) (at : ℕ) → Put d at t o r → r ≤ most → (r ≡ at + length t) × ((o ≡ sets d at t) × (r ≤ most))
-so-put d at p h = (p .end, (p .so, h))
 
 -- a text, and another right behind it
 pub next : {d o o′ t u : List ℕ} {at r r′ : ℕ} → Put d at t o r → Put o r u o′ r′ → Put d at (t ++ u) o′ r′

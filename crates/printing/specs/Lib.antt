@@ -1,3 +1,3 @@
--- The lines that bench writes, byte by byte.
+-- The lines that bench writes, byte by byte (Lines), and a text in a lent buffer (Put).
 pub mod Lines
-pub mod Parts
+pub mod Put

@@ -3,8 +3,16 @@ use mathlib.Core.Bool.{cond}
 use mathlib.Core.List.{List, [], _∷_, _++_}
 use Prim.Native.Nat.{ℕ, zero, suc, _+_, _/_, _%_}
 use lib.Dec.{eqb, ltb}
-use lib.ListN.{getD}
-use Rattle.tables.specs.Refusals.{Reply}
+use Rattle.tables.specs.Refusals.{numberOf, carriedBy}
+use Rattle.walk.specs.declared.Totals.{Totals}
+use Rattle.promise.specs.declared.AveragePlan.{AveragePlan}
+use Rattle.promise.specs.declared.MinmaxPlan.{MinmaxPlan}
+use Rattle.promise.specs.declared.AverageAnswer.{AverageAnswer}
+use Rattle.promise.specs.declared.MinmaxAnswer.{MinmaxAnswer}
+use Rattle.promise.specs.declared.AverageAnswer.the-variants as average-answer
+use Rattle.promise.specs.declared.MinmaxAnswer.the-variants as minmax-answer
+use Rattle.printing.specs.declared.line.Said.{Said}
+use Rattle.printing.specs.declared.line.Said.the-variants.{Average, Minmax, Refused}
 
 -- a number in decimal, with no zero in front; k digits are room enough
 abbrev pub decimal-in : ℕ → ℕ → List ℕ
@@ -72,23 +80,43 @@ line-end = 10 ∷ []
 abbrev pub refusal-text : ℕ → ℕ → List ℕ
 refusal-text number carried = named refused number ++ cond (eqb number 7) (named at carried) []
 
+-- " n/d"
+abbrev pub ratio : ℕ → ℕ → List ℕ
+ratio n d = spaced (decimal n) ++ (47 ∷ decimal d)
+
+-- the rate and the distortion of a plan
+abbrev pub sums : Totals → List ℕ
+sums t = named rate (t .rate .0) ++ named dist (t .distortion .0)
+
 -- "First line: n/d, rate, distortion, peak, floor, settings."
-abbrev pub ave-text : List ℕ → List ℕ → List ℕ
-ave-text v settings =
-    spaced (decimal (getD v 0 0)) ++ (47 ∷ decimal (getD v 1 0)) ++ named rate (getD v 2 0) ++ named dist (getD v 3 0) ++ named peak (getD v 4 0)
-    ++ named floor (getD v 5 0) ++ planned settings
+abbrev pub ave-text : AveragePlan → List ℕ → List ℕ
+ave-text p settings = ratio (p .n) (p .d) ++ sums (p .totals) ++ named peak (p .totals .peak) ++ named floor (p .floor .0) ++ planned settings
 
 -- "Second: X, rate, distortion, settings."
-abbrev pub minmax-text : List ℕ → List ℕ → List ℕ
-minmax-text v settings = spaced (decimal (getD v 0 0)) ++ named rate (getD v 1 0) ++ named dist (getD v 2 0) ++ planned settings
+abbrev pub minmax-text : MinmaxPlan → List ℕ → List ℕ
+minmax-text p settings = spaced (decimal (p .ceiling)) ++ sums (p .totals) ++ planned settings
 
--- the line of an answer: its first word, and then the refusal or the plan
-abbrev pub line : List ℕ → (List ℕ → List ℕ → List ℕ) → Reply → List ℕ → List ℕ
-line first text reply settings =
-    first ++ cond (eqb (reply .number) 0) (text (reply .values) settings) (refusal-text (reply .number) (getD (reply .values) 0 0)) ++ line-end
+-- what a line says after its first word
+abbrev pub said-text : Said → List ℕ → List ℕ
+said-text (Average p) settings = ave-text p settings
+said-text (Minmax p) settings = minmax-text p settings
+said-text (Refused r) settings = refusal-text (numberOf r) (carriedBy r)
 
-unfoldable pub ave-line : Reply → List ℕ → List ℕ
-ave-line reply settings = line ave ave-text reply settings
+-- a line: its first word, what it says, and its end
+unfoldable pub line : List ℕ → Said → List ℕ → List ℕ
+line first said settings = first ++ said-text said settings ++ line-end
 
-unfoldable pub minmax-line : Reply → List ℕ → List ℕ
-minmax-line reply settings = line minmax minmax-text reply settings
+-- what is said of an answer, and its line: the first of the average call, the second of the minmax call
+abbrev pub average-said : AverageAnswer → Said
+average-said (average-answer.Planned p) = Average p
+average-said (average-answer.Refused r) = Refused r
+
+abbrev pub minmax-said : MinmaxAnswer → Said
+minmax-said (minmax-answer.Planned p) = Minmax p
+minmax-said (minmax-answer.Refused r) = Refused r
+
+abbrev pub ave-line : AverageAnswer → List ℕ → List ℕ
+ave-line answer settings = line ave (average-said answer) settings
+
+abbrev pub minmax-line : MinmaxAnswer → List ℕ → List ℕ
+minmax-line answer settings = line minmax (minmax-said answer) settings

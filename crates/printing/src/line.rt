@@ -1,4 +1,4 @@
-// A line of bench: of an answer and the settings of its plan.
+// A line of bench: of what it says and the settings of its plan.
 use crate::put::put;
 use crate::put::put_named;
 use crate::put::put_number;
@@ -9,14 +9,39 @@ use promise::AverageAnswer;
 use promise::AveragePlan;
 use promise::MinmaxAnswer;
 use promise::MinmaxPlan;
+use tables::refusal::Refusal;
 use walk::Totals;
 ghost use mathlib.Core.Path.{_≡_};
 ghost use Prim.Native.Nat.{_+_, _*_, _≤_};
 ghost use lib.ListN.{length};
-ghost use lib.Seq.{sets};
-ghost use Rattle.promise.specs.Promise.{«average-reply», «minmax-reply»};
-ghost use Rattle.printing.specs.Lines.{«ave-text», «minmax-text», «ave-line», «minmax-line»};
-ghost use Rattle.printing.specs.Parts.{Put, ratio, sums, «average-values», «minmax-values», «after-word»};
+ghost use Rattle.printing.specs.Lines.{ratio, sums, «ave-text», «minmax-text», «said-text», line, «average-said», «minmax-said»};
+ghost use Rattle.printing.specs.Put.{Put};
+
+// What a line says after its first word: a plan, or that there is none.
+pub enum Said {
+    Average(AveragePlan),
+    Minmax(MinmaxPlan),
+    Refused(Refusal),
+}
+
+// What the first line says of an answer of the average call, and the second of one of the minmax call.
+pub fn average_said(answer: AverageAnswer) -> Said
+    ensures { λ r. ⌜ r ≡ average-said answer ⌝ }
+{
+    match answer {
+        AverageAnswer::Planned(plan) => Said::Average(plan),
+        AverageAnswer::Refused(r) => Said::Refused(r),
+    }
+}
+
+pub fn minmax_said(answer: MinmaxAnswer) -> Said
+    ensures { λ r. ⌜ r ≡ minmax-said answer ⌝ }
+{
+    match answer {
+        MinmaxAnswer::Planned(plan) => Said::Minmax(plan),
+        MinmaxAnswer::Refused(r) => Said::Refused(r),
+    }
+}
 
 // " n/d": two numbers of 20 digits at most, a space and a slash.
 fn put_ratio(out: &mut [u8], at: usize, n: u64, d: u64) -> usize
@@ -32,7 +57,7 @@ fn put_ratio(out: &mut [u8], at: usize, n: u64, d: u64) -> usize
 // The rate and the distortion of a plan, which both lines have.
 fn put_sums(out: &mut [u8], at: usize, totals: Totals) -> usize
     requires { ⌜ at + 52 ≤ length (now out) ⌝ }
-    ensures { λ r. ⌜ Put (now (out .entry)) at (sums (totals .rate .0) (totals .distortion .0)) (now (out .exit)) r ⌝ }
+    ensures { λ r. ⌜ Put (now (out .entry)) at (sums totals) (now (out .exit)) r ⌝ }
     ensures { λ r. ⌜ r ≤ at + 52 ⌝ }
 {
     let rate = totals.rate;
@@ -44,7 +69,7 @@ fn put_sums(out: &mut [u8], at: usize, totals: Totals) -> usize
 // What follows the first word of the first line when there is a plan: 42 bytes, 52, " peak " and " floor " with their numbers, and " plan".
 fn put_average(out: &mut [u8], at: usize, plan: AveragePlan, settings: &[u8]) -> usize
     requires { ⌜ at + (152 + 4 * length (now settings)) ≤ length (now out) ⌝ }
-    ensures { λ r. ⌜ Put (now (out .entry)) at (ave-text (average-values plan) (now (settings .entry))) (now (out .exit)) r ⌝ }
+    ensures { λ r. ⌜ Put (now (out .entry)) at (ave-text plan (now (settings .entry))) (now (out .exit)) r ⌝ }
     ensures { λ r. ⌜ r ≤ at + (152 + 4 * length (now (settings .entry))) ⌝ }
 {
     let totals = plan.totals;
@@ -59,7 +84,7 @@ fn put_average(out: &mut [u8], at: usize, plan: AveragePlan, settings: &[u8]) ->
 // And of the second: a space and 20 digits, 52 bytes, and " plan".
 fn put_minmax(out: &mut [u8], at: usize, plan: MinmaxPlan, settings: &[u8]) -> usize
     requires { ⌜ at + (78 + 4 * length (now settings)) ≤ length (now out) ⌝ }
-    ensures { λ r. ⌜ Put (now (out .entry)) at (minmax-text (minmax-values plan) (now (settings .entry))) (now (out .exit)) r ⌝ }
+    ensures { λ r. ⌜ Put (now (out .entry)) at (minmax-text plan (now (settings .entry))) (now (out .exit)) r ⌝ }
     ensures { λ r. ⌜ r ≤ at + (78 + 4 * length (now (settings .entry))) ⌝ }
 {
     let totals = plan.totals;
@@ -68,48 +93,26 @@ fn put_minmax(out: &mut [u8], at: usize, plan: MinmaxPlan, settings: &[u8]) -> u
     put_planned(out, plan_at, settings)
 }
 
-// The plan of an answer, or its refusal.
-fn put_average_answer(out: &mut [u8], at: usize, answer: AverageAnswer, settings: &[u8]) -> usize
+// What the line says, in as many bytes as the longest needs.
+fn put_said(out: &mut [u8], at: usize, said: Said, settings: &[u8]) -> usize
     requires { ⌜ at + (152 + 4 * length (now settings)) ≤ length (now out) ⌝ }
-    ensures { λ r. ⌜ Put (now (out .entry)) at (after-word ave-text (average-reply answer) (now (settings .entry))) (now (out .exit)) r ⌝ }
+    ensures { λ r. ⌜ Put (now (out .entry)) at (said-text said (now (settings .entry))) (now (out .exit)) r ⌝ }
     ensures { λ r. ⌜ r ≤ at + (152 + 4 * length (now (settings .entry))) ⌝ }
 {
-    match answer {
-        AverageAnswer::Planned(plan) => put_average(out, at, plan, settings),
-        AverageAnswer::Refused(r) => put_refusal(out, at, r),
+    match said {
+        Said::Average(plan) => put_average(out, at, plan, settings),
+        Said::Minmax(plan) => put_minmax(out, at, plan, settings),
+        Said::Refused(r) => put_refusal(out, at, r),
     }
 }
 
-fn put_minmax_answer(out: &mut [u8], at: usize, answer: MinmaxAnswer, settings: &[u8]) -> usize
-    requires { ⌜ at + (78 + 4 * length (now settings)) ≤ length (now out) ⌝ }
-    ensures { λ r. ⌜ Put (now (out .entry)) at (after-word minmax-text (minmax-reply answer) (now (settings .entry))) (now (out .exit)) r ⌝ }
-    ensures { λ r. ⌜ r ≤ at + (78 + 4 * length (now (settings .entry))) ⌝ }
+// A whole line: its first word, what it says, and its end.
+pub fn put_line(out: &mut [u8], at: usize, word: &[u8], said: Said, settings: &[u8]) -> usize
+    requires { ⌜ at + (length (now word) + (153 + 4 * length (now settings))) ≤ length (now out) ⌝ }
+    ensures { λ r. ⌜ Put (now (out .entry)) at (line (now (word .entry)) said (now (settings .entry))) (now (out .exit)) r ⌝ }
+    ensures { λ r. ⌜ r ≤ at + (length (now (word .entry)) + (153 + 4 * length (now (settings .entry)))) ⌝ }
 {
-    match answer {
-        MinmaxAnswer::Planned(plan) => put_minmax(out, at, plan, settings),
-        MinmaxAnswer::Refused(r) => put_refusal(out, at, r),
-    }
-}
-
-// At most 256 bytes beside the settings, and at most 4 for each setting.
-pub fn ave_line(out: &mut [u8], at: usize, answer: AverageAnswer, settings: &[u8]) -> usize
-    requires { ⌜ at + (256 + 4 * length (now settings)) ≤ length (now out) ⌝ }
-    ensures { λ r. ⌜ r ≡ at + length (ave-line (average-reply answer) (now (settings .entry))) ⌝ }
-    ensures { λ _. ⌜ now (out .exit) ≡ sets (now (out .entry)) at (ave-line (average-reply answer) (now (settings .entry))) ⌝ }
-    ensures { λ r. ⌜ r ≤ at + (256 + 4 * length (now (settings .entry))) ⌝ }
-{
-    let text = put(out, at, b"ave");
-    let end = put_average_answer(out, text, answer, settings);
-    put(out, end, b"\n")
-}
-
-pub fn minmax_line(out: &mut [u8], at: usize, answer: MinmaxAnswer, settings: &[u8]) -> usize
-    requires { ⌜ at + (256 + 4 * length (now settings)) ≤ length (now out) ⌝ }
-    ensures { λ r. ⌜ r ≡ at + length (minmax-line (minmax-reply answer) (now (settings .entry))) ⌝ }
-    ensures { λ _. ⌜ now (out .exit) ≡ sets (now (out .entry)) at (minmax-line (minmax-reply answer) (now (settings .entry))) ⌝ }
-    ensures { λ r. ⌜ r ≤ at + (256 + 4 * length (now (settings .entry))) ⌝ }
-{
-    let text = put(out, at, b"minmax");
-    let end = put_minmax_answer(out, text, answer, settings);
+    let text = put(out, at, word);
+    let end = put_said(out, text, said, settings);
     put(out, end, b"\n")
 }

@@ -1,16 +1,16 @@
 -- What a refusal carries is below 2 ^ 32, whichever call gives it, and what a call answers can be told. Assumes nothing.
-use mathlib.Core.Path.{_≡_, refl, ap}
-use mathlib.Core.Bool.{Bool, true, false, cond}
+use mathlib.Core.Path.{_≡_, refl, sym, ap, _∙_}
+use mathlib.Core.Bool.{Bool, true, false, cond, _&&_}
 use mathlib.Core.Option.{Option, none, some}
 use mathlib.Core.List.{List, [], _∷_}
 use Prim.Native.Nat.{ℕ, _*_, _-_, _/_, _≤_, _<_, _^_}
 use native.Mathlib.Omega.{arith}
-use lib.Dec.{ltb}
+use lib.Dec.{eqb, ltb}
 use lib.ListN.{length, getD}
-use borrow.Author.Tests.{ltb-false, lt-ltb, le-ltb, ne-eqb}
+use borrow.Author.Tests.{ltb-false, ne-eqb}
 use Rattle.tables.specs.declared.refusal.Refusal.{Refusal}
 use Rattle.tables.specs.declared.refusal.Refusal.the-variants as refusal
-use Rattle.tables.specs.Refusals.{Reply, refused, answered, numberOf, carriedBy}
+use Rattle.tables.specs.Refusals.{Reply, refused, numberOf, carriedBy}
 use Rattle.tables.specs.Limits.{most-scans, most-settings}
 use Rattle.tables.specs.Tables.{cells, scratch-need}
 use Rattle.checks.specs.Planning.{Asked, Unsound, early, illegal, channels-out, scans-out, settings-out}
@@ -19,7 +19,7 @@ use Rattle.checks.proofs.PlanningLaws.{early-gives, admitted, lengths-exact, so
 use Rattle.rules.proofs.FieldLaws.{rules-give}
 use Rattle.rules.specs.Rules.{header-rules}
 use Rattle.rules.specs.declared.Faults.{Faults}
-use Rattle.checks.specs.Checks.{first-refusal, or-answer, first-from, found, when}
+use Rattle.checks.specs.Checks.{first-refusal, or-else, or-answer, first-from, found, when}
 use Rattle.room.specs.Room.{room-checks, room-of}
 use Rattle.checks.proofs.RangeLaws.{in-range}
 use Rattle.laws.proofs.Tests.{neither}
@@ -31,21 +31,15 @@ use Rattle.entries.specs.Entries.{entry-broken}
 use Rattle.blocks.specs.Blocks.{length-out, block-broken, bad-block}
 use Rattle.planfile.specs.Reading.{bad-entry, broken-field, fields-of, faults-of, read-refusal, read-of, field-values}
 use Rattle.planfile.specs.Writing.{no-faults, write-short, write-refusal, write-of}
-use Rattle.checks.proofs.CheckLaws.{none-when}
+use Rattle.checks.proofs.CheckLaws.{none-else, none-when}
 use Rattle.planfile.proofs.ReadLaws.{two-lengths}
 use Rattle.planfile.proofs.WriteLaws.{scans-inside}
 use Rattle.planfile.proofs.Accepted.{passed}
-use Rattle.promise.specs.declared.PlanAnswer.{PlanAnswer}
-use Rattle.promise.specs.declared.PlanAnswer.the-variants as plan-answer
-use Rattle.promise.specs.declared.MinmaxAnswer.{MinmaxAnswer}
-use Rattle.promise.specs.declared.MinmaxAnswer.the-variants as minmax-answer
-use Rattle.promise.specs.declared.AverageAnswer.{AverageAnswer}
-use Rattle.promise.specs.declared.AverageAnswer.the-variants as average-answer
-use Rattle.promise.specs.Promise.{Promise, unsound, no-sequence, none-within, planned, plan-reply, minmax-reply, average-reply}
+use Rattle.promise.specs.Promise.{Promise, unsound, no-sequence, none-within, planned}
 use Rattle.telling.specs.Told.{lent}
 use Rattle.qpl.specs.Surface.{room-told}
 use Rattle.telling.specs.Parts.{Tellable}
-use Rattle.telling.proofs.AnswerLaws.{tellable-refusal}
+use Rattle.telling.proofs.AnswerLaws.{tellable-refusal, tellable-as}
 
 -- a refusal carries less than 2 ^ 32
 abbrev pub Little : Refusal → Type 0
@@ -122,51 +116,43 @@ read-tellable file answer room = or-tellable (read-refusal file (lent 88 answer 
 
 -- a planning call whose answer needs so many bytes
 pub promise-tellable : {further : Option Refusal} {a : Asked} {within : List ℕ → Type 0} {Plan : List ℕ → List ℕ → Type 0}
-    {plan scratch p s : List ℕ} {reply : Reply} (need answer room : ℕ) → Gives Little further → Promise further a within Plan plan scratch reply p s →
-    a .plan ≡ lent need answer room → (reply .number ≡ 0 → 8 * length (reply .values) ≤ need) → Tellable reply answer
-promise-tellable need answer room little (unsound {r = r} u e f g) m h = refusal-tellable r e (unsound-light little u)
-promise-tellable need answer room little (no-sequence o n e f g) m h = refusal-tellable refusal.NoSequence e (omega arith)
-promise-tellable need answer room little (none-within o n e f g) m h = refusal-tellable refusal.NoneWithin e (omega arith)
-promise-tellable {reply = reply} need answer room little (planned o t v q e f g) m h =
-    let zero-number : reply .number ≡ 0 = ap (λ (x : Reply). x .number) e in
+    {plan scratch p s : List ℕ} {reply : Reply} (need answer room : ℕ) → Gives Little further → ((t v : List ℕ) → Plan t v → 8 * length v ≤ need) →
+    a .plan ≡ lent need answer room → Promise further a within Plan plan scratch reply p s → Tellable reply answer
+promise-tellable need answer room little fits m (unsound {r = r} u e f g) = refusal-tellable r e (unsound-light little u)
+promise-tellable need answer room little fits m (no-sequence o n e f g) = refusal-tellable refusal.NoSequence e (omega arith)
+promise-tellable need answer room little fits m (none-within o n e f g) = refusal-tellable refusal.NoneWithin e (omega arith)
+promise-tellable need answer room little fits m (planned o t v q e f g) =
     let some-room : 1 ≤ lent need answer room = omega (arith, sound-plan o, sound-fit o .some-scans, m) in
-    record {
-      holds = λ z. omega (arith, h z, lent-some need answer room some-room);
-      small = λ z. absurd (z zero-number);
-    }
-
--- the answers of the planning calls need 24, 32 and 48 bytes
-pub plan-needs : (r : PlanAnswer) → plan-reply r .number ≡ 0 → 8 * length (plan-reply r .values) ≤ 24
-plan-needs (plan-answer.Planned t) e = omega arith
-plan-needs (plan-answer.Refused r) e = absurd (never-zero r e)
-
-pub minmax-needs : (r : MinmaxAnswer) → minmax-reply r .number ≡ 0 → 8 * length (minmax-reply r .values) ≤ 32
-minmax-needs (minmax-answer.Planned m) e = omega arith
-minmax-needs (minmax-answer.Refused r) e = absurd (never-zero r e)
-
-pub average-needs : (r : AverageAnswer) → average-reply r .number ≡ 0 → 8 * length (average-reply r .values) ≤ 48
-average-needs (average-answer.Planned m) e = omega arith
-average-needs (average-answer.Refused r) e = absurd (never-zero r e)
-
-pub room-carries : (C N Q : ℕ) (r : Refusal) → room-of C N Q ≡ refused r → carriedBy r < 2 ^ 32
-unfolding room-of
-room-carries C N Q r e = tellable-refusal r e
-    (or-tellable (first-refusal (room-checks C N Q)) (cells N Q ∷ 4 * C * cells N Q ∷ scratch-need N Q ∷ []) 24 (room-light C N Q) (λ z. omega arith))
+    tellable-as e (or-tellable none v answer tt (λ z. omega (arith, fits t v q, lent-some need answer room some-room)))
 
 pub write-carries : (f : Fields) (settings : List ℕ) (room : ℕ) (r : Refusal) → write-of f settings room ≡ refused r → carriedBy r < 2 ^ 32
 unfolding write-of
 write-carries f settings room r e = tellable-refusal r e
     (or-tellable (write-refusal f settings room) (file-length (f .scans) ∷ []) 8 (write-light f settings room) (λ z. omega arith))
 
--- the room question's ways out
-pub room-short : (C N Q n : ℕ) (v : List ℕ) → room-of C N Q ≡ answered v → n < 24 → room-told C N Q n ≡ refused refusal.Buffer
-unfolding room-told
-room-short C N Q n v e h = rw (e, lt-ltb n 24 h) refl
+-- one more test behind the checks of a call
+more-check : (o : Option Refusal) (t : Bool) (r : Refusal) (v : List ℕ) →
+    or-answer (or-else o (when t r)) v ≡ cond (eqb (or-answer o v .number) 0 && t) (refused r) (or-answer o v)
+more-check none true r v = refl
+more-check none false r v = refl
+more-check (some s) t r v = rw (ne-eqb (numberOf s) 0 (never-zero s)) refl
 
-pub room-long : (C N Q n : ℕ) (v : List ℕ) → room-of C N Q ≡ answered v → 24 ≤ n → room-told C N Q n ≡ answered v
+-- the room question's answer buffer is such a test
+pub room-last : (C N Q n : ℕ) (o : Option Refusal) {p : Option Refusal} (v : List ℕ) → or-answer o v ≡ room-of C N Q →
+    p ≡ or-else o (when (ltb n 24) refusal.Buffer) → or-answer p v ≡ room-told C N Q n
 unfolding room-told
-room-long C N Q n v e h = rw (e, le-ltb n 24 h) refl
+room-last C N Q n o v e f =
+    ap (λ x. or-answer x v) f
+    ∙ more-check o (ltb n 24) refusal.Buffer v
+    ∙ ap (λ (reply : Reply). cond (eqb (reply .number) 0 && ltb n 24) (refused refusal.Buffer) reply) e
 
-pub room-refused : (C N Q n : ℕ) (r : Refusal) → room-of C N Q ≡ refused r → room-told C N Q n ≡ refused r
-unfolding room-told
-room-refused C N Q n r e = rw (e, ne-eqb (numberOf r) 0 (never-zero r)) refl
+pub room-tellable : (C N Q n : ℕ) → Tellable (room-told C N Q n) n
+unfolding room-of
+room-tellable C N Q n =
+    let o = first-refusal (room-checks C N Q) in
+    let short = when (ltb n 24) refusal.Buffer in
+    let v : List ℕ = cells N Q ∷ 4 * C * cells N Q ∷ scratch-need N Q ∷ [] in
+    tellable-as (sym (room-last C N Q n o v refl refl))
+    (or-tellable (or-else o short) v n
+    (gives-else Little o short (room-light C N Q) (λ e. gives-when Little (ltb n 24) refusal.Buffer (omega arith)))
+    (λ e. ltb-false n 24 (none-when (ltb n 24) refusal.Buffer (none-else o short e .1))))

@@ -1,10 +1,10 @@
--- A call over the front of a lent buffer is a call over the buffer. Assumes nothing.
+-- A call over the front of a lent buffer is a call over the buffer, and what a planning call answers is told. Assumes nothing.
 use mathlib.Core.Path.{_≡_, refl, sym, ap, _∙_}
 use mathlib.Core.Option.{Option, none, some}
 use mathlib.Core.List.{List, _++_, append-assoc}
-use Prim.Native.Nat.{ℕ, _≤_}
+use Prim.Native.Nat.{ℕ, _*_, _≤_}
 use lib.ListN.{length, take, drop, take-append-drop}
-use lib.Seq.{drop-append-le}
+use lib.Seq.{drop-append-le, length-take-le}
 use Rattle.tables.specs.declared.refusal.Refusal.{Refusal}
 use Rattle.tables.specs.Refusals.{Reply}
 use Rattle.planfile.specs.Reading.{entries, fields-of, read-refusal, settings-after}
@@ -12,25 +12,32 @@ use Rattle.blocks.specs.File.{entry-at}
 use Rattle.planfile.proofs.Accepted.{passed}
 use Rattle.promise.specs.Promise.{Promise, unsound, no-sequence, none-within, planned}
 use Rattle.checks.specs.Planning.{asking}
+use Rattle.checks.proofs.GiveLaws.{Gives}
 use Rattle.checks.proofs.PlanningLaws.{sound-plan}
+use Rattle.telling.specs.Told.{Told, lent}
+use Rattle.telling.specs.Parts.{Tellable}
+use Rattle.telling.proofs.AnswerLaws.{tellable-as, told-as}
+use Rattle.qpl.specs.Surface.{Tells}
+use Rattle.qpl.proofs.CarryLaws.{Little, promise-tellable}
 
 -- a buffer whose front stays the same stays the same
 same-front : (room : ℕ) (l : List ℕ) {p : List ℕ} → p ≡ take room l → p ++ drop room l ≡ l
 same-front room l e = ap (λ (x : List ℕ). x ++ drop room l) e ∙ take-append-drop room l
 
 -- what is handed to the front is handed to the buffer
-pub handed-front : (room n : ℕ) (t l : List ℕ) {p : List ℕ} → n ≤ length (take room l) → p ≡ t ++ drop n (take room l) →
+handed-front : (room n : ℕ) (t l : List ℕ) {p : List ℕ} → n ≤ length (take room l) → p ≡ t ++ drop n (take room l) →
     p ++ drop room l ≡ t ++ drop n l
 handed-front room n t l h e =
     ap (λ (x : List ℕ). x ++ drop room l) e
     ∙ append-assoc t (drop n (take room l)) (drop room l)
     ∙ ap (λ (x : List ℕ). t ++ x) (sym (drop-append-le n (take room l) (drop room l) h) ∙ ap (drop n) (take-append-drop room l))
 
-pub promise-whole : {further : Option Refusal} {N Q law S : ℕ} {R D : List ℕ} {within : List ℕ → Type 0} {Plan : List ℕ → List ℕ → Type 0}
-    {scratch p s : List ℕ} {reply : Reply} (room m : ℕ) (plan : List ℕ) →
+-- a planning call
+promise-whole : {further : Option Refusal} {N Q law S : ℕ} {R D : List ℕ} {within : List ℕ → Type 0} {Plan : List ℕ → List ℕ → Type 0}
+    {scratch p s : List ℕ} {reply : Reply} {m : ℕ} (room : ℕ) (plan : List ℕ) →
     Promise further (asking N Q law R D (length (take room plan)) S) within Plan (take room plan) scratch reply p s →
     length (take room plan) ≡ m → Promise further (asking N Q law R D m S) within Plan plan scratch reply (p ++ drop room plan) s
-promise-whole {further} {N} {Q} {law} {S} {R} {D} {within} {Plan} {scratch} {p} {s} {reply} room m plan promise e = rw e at (whole promise)
+promise-whole {further} {N} {Q} {law} {S} {R} {D} {within} {Plan} {scratch} {p} {s} {reply} room plan promise e = rw e at (whole promise)
   where
     whole : Promise further (asking N Q law R D (length (take room plan)) S) within Plan (take room plan) scratch reply p s →
         Promise further (asking N Q law R D (length (take room plan)) S) within Plan plan scratch reply (p ++ drop room plan) s
@@ -39,11 +46,35 @@ promise-whole {further} {N} {Q} {law} {S} {R} {D} {within} {Plan} {scratch} {p} 
     whole (none-within o n e f g) = none-within o n e (same-front room plan f) g
     whole (planned o t v q e f g) = planned o t v q e (handed-front room N t plan (sound-plan o) f) g
 
+-- the front of a buffer has the room that is lent
+pub front-length : {room m : ℕ} (l : List ℕ) → (room ≡ m) × (room ≤ length l) → length (take room l) ≡ m
+front-length {room} l h = length-take-le room l (h .1) ∙ h .0
+
+-- A planning call over the room that is lent: `given` is its answer, and `reply` is told of it.
+module _ {A : Type 0} (reply-of : A → Reply) (given : A) (need : ℕ) (answer plan : List ℕ) {further : Option Refusal} {N Q law S room : ℕ}
+    {R D scratch p s : List ℕ} {within : List ℕ → Type 0} {Plan : List ℕ → List ℕ → Type 0} {reply : Reply}
+    (lends : (room ≡ lent need (length answer) (length plan)) × (room ≤ length plan))
+    (promise : Promise further (asking N Q law R D (length (take room plan)) S) within Plan (take room plan) scratch (reply-of given) p s)
+    (said : reply ≡ reply-of given) where
+  -- it can be told
+  pub planning-tellable : Gives Little further → ((t v : List ℕ) → Plan t v → 8 * length v ≤ need) → Tellable reply (length answer)
+  planning-tellable little fits = tellable-as said (promise-tellable need (length answer) (length plan) little fits (front-length plan lends) promise)
+
+  -- and once it is told, the call over the whole buffer has kept its promise
+  pub planning-tells : {word : ℕ} {answer′ : List ℕ} → Told reply answer word answer′ →
+      Tells reply-of (λ a. Promise further (asking N Q law R D (lent need (length answer) (length plan)) S) within Plan plan scratch (reply-of a)
+      (p ++ drop room plan) s) answer word answer′
+  planning-tells {word} {answer′} told = record {
+    given = given;
+    kept = promise-whole room plan promise (front-length plan lends);
+    told = told-as answer word answer′ said told;
+  }
+
 -- the reader's settings
-pub read-whole : (file settings : List ℕ) (room m : ℕ) {p : List ℕ} → length (take room settings) ≡ m →
+pub read-whole : (file settings : List ℕ) (room : ℕ) {m : ℕ} {p : List ℕ} → length (take room settings) ≡ m →
     p ≡ settings-after (read-refusal file (length (take room settings))) file (take room settings) →
     p ++ drop room settings ≡ settings-after (read-refusal file m) file settings
-read-whole file settings room m {p} e f =
+read-whole file settings room {p = p} e f =
     of (read-refusal file (length (take room settings))) refl f
     ∙ ap (λ (k : ℕ). settings-after (read-refusal file k) file settings) e
   where

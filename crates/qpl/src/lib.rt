@@ -1,6 +1,7 @@
 // The C surface (include/qpl.h): the room question, the reader and the writer of plan files, and the four planning calls. Each function is
 // one call of the layer below. It gives back 0, or a refusal's number with what it carries in the high 32 bits; what it answers goes to a
 // lent buffer.
+use checks::stage::then;
 use keys::cost::Dist;
 use keys::cost::Rate;
 use planfile::read::read_plan;
@@ -10,42 +11,51 @@ use planner::average::average_plan;
 use planner::ceiling::ceiling_plan;
 use planner::minmax::minmax_plan;
 use planner::multiplier::multiplier_plan;
-use room::RoomAnswer;
 use room::room_for;
 use rules::Fields;
 use tables::refusal::Refusal;
+use telling::Answer;
+use telling::average_answer;
 use telling::lent;
-use telling::put_room;
-use telling::tell_average;
-use telling::tell_fields;
-use telling::tell_minmax;
-use telling::tell_plan;
+use telling::minmax_answer;
+use telling::plan_answer;
+use telling::read_answer;
+use telling::room_answer;
+use telling::tell;
 use telling::word;
 ghost use mathlib.Core.Path.{_≡_};
+ghost use Prim.Native.Nat.{_≤_};
 ghost use lib.ListN.{length};
 ghost use Rattle.checks.specs.Planning.{asking};
 ghost use Rattle.promise.specs.Promise.{CeilingPromise, MultiplierPromise, MinmaxPromise, AveragePromise, «plan-reply», «minmax-reply», «average-reply»};
 ghost use Rattle.planfile.specs.Reading.{«read-of», «read-refusal», «settings-after»};
 ghost use Rattle.planfile.specs.Writing.{«write-of», «write-refusal», «file-after»};
 ghost use Rattle.telling.specs.Told.{Told, «word-of», lent as Lent};
+ghost use Rattle.telling.specs.Parts.{«answer-reply»};
 ghost use Rattle.qpl.specs.Surface.{Tells, «room-told», «fields-told»};
+
+// The room question, with the answer buffer as the last thing asked for.
+fn room_told(channels: u64, scans: u64, settings: u64, answer: usize) -> Answer
+    ensures { λ r. ⌜ (answer-reply r ≡ room-told channels scans settings answer) × (r .count ≤ 11) ⌝ }
+{
+    let room = room_answer(room_for(channels, scans, settings));
+    let asked = room.ended;
+    let values = room.values;
+    let ended = then(asked, answer < 24, Refusal::Buffer);
+    Answer {
+        ended,
+        values,
+        count: room.count,
+    }
+}
 
 // cells, bytes, scratch
 #[no_mangle]
 pub extern "C" fn qpl_room(channels: u64, scans: u64, settings: u64, answer: &mut [u8]) -> u64
     ensures { λ r. ⌜ Told (room-told channels scans settings (length (now (answer .entry)))) (now (answer .entry)) r (now (answer .exit)) ⌝ }
 {
-    let told = room_for(channels, scans, settings);
-    match told {
-        RoomAnswer::Given(room) => {
-            if answer.len() < 24 {
-                return word(Refusal::Buffer);
-            }
-            put_room(room, answer);
-            0
-        }
-        RoomAnswer::Refused(r) => word(r),
-    }
+    let told = room_told(channels, scans, settings, answer.len());
+    tell(told, answer)
 }
 
 // scans, settings, law, kind, budget, n, d, rate, distortion, peak, floor
@@ -56,7 +66,7 @@ pub extern "C" fn qpl_read(file: &[u8], settings: &mut [u8], answer: &mut [u8]) 
 {
     let room = lent(88, answer.len(), settings.len());
     let told = read_plan(file, &mut settings[..room]);
-    tell_fields(told, answer)
+    tell(read_answer(told), answer)
 }
 
 // The length of the file follows from its scans, so nothing but 0 or a refusal goes back.
@@ -125,7 +135,7 @@ pub extern "C" fn qpl_ceiling(
         &mut plan[..room],
         scratch,
     );
-    tell_plan(told, answer)
+    tell(plan_answer(told), answer)
 }
 
 // rate, distortion, peak
@@ -156,7 +166,7 @@ pub extern "C" fn qpl_multiplier(
         &mut plan[..room],
         scratch,
     );
-    tell_plan(told, answer)
+    tell(plan_answer(told), answer)
 }
 
 // X, rate, distortion, peak
@@ -185,7 +195,7 @@ pub extern "C" fn qpl_minmax(
         &mut plan[..room],
         scratch,
     );
-    tell_minmax(told, answer)
+    tell(minmax_answer(told), answer)
 }
 
 // n, d, rate, distortion, peak, floor
@@ -214,5 +224,5 @@ pub extern "C" fn qpl_average(
         &mut plan[..room],
         scratch,
     );
-    tell_average(told, answer)
+    tell(average_answer(told), answer)
 }

@@ -66,20 +66,20 @@ module _ {P : Problem} where
     }
 
     -- one that costs what lo does is the last
-    pub slope-ends : {n d : ℕ} {t : List ℕ} {u : Totals} → SlopeOf lo hi n d → Multiplier P n d t → TotalsOf P t u →
-        eqb (d * u .distortion .0 + n * u .rate .0) (d * lo .distortion .0 + n * lo .rate .0) ≡ true → Ended P B n d t
-    slope-ends {n} {d} s m h e =
-        slopes-end P (last (slope-at s m) (sym (totals-cost n d h) ∙ eqb-true _ _ e ∙ totals-cost n d (b .lo-totals)))
+    pub slope-ends : {n d : ℕ} {t : List ℕ} {u : Totals} {tied : Bool} → SlopeOf lo hi n d → Multiplier P n d t → TotalsOf P t u →
+        tied ≡ eqb (d * u .distortion .0 + n * u .rate .0) (d * lo .distortion .0 + n * lo .rate .0) → tied ≡ true → Ended P B n d t
+    slope-ends {n} {d} s m h e y =
+        slopes-end P (last (slope-at s m) (sym (totals-cost n d h) ∙ eqb-true _ _ (sym e ∙ y) ∙ totals-cost n d (b .lo-totals)))
         lo-allowed (b .fits) (b .hi-origin .one) (b .over)
 
     -- one that costs less takes the place of the one on its side, and the two draw together
-    module _ {n d : ℕ} {t : List ℕ} {u : Totals} (s : SlopeOf lo hi n d) (m : Multiplier P n d t) (h : TotalsOf P t u)
-        (e : eqb (d * u .distortion .0 + n * u .rate .0) (d * lo .distortion .0 + n * lo .rate .0) ≡ false) where
+    module _ {n d : ℕ} {t : List ℕ} {u : Totals} {tied : Bool} (s : SlopeOf lo hi n d) (m : Multiplier P n d t) (h : TotalsOf P t u)
+        (e : tied ≡ eqb (d * u .distortion .0 + n * u .rate .0) (d * lo .distortion .0 + n * lo .rate .0)) (no : tied ≡ false) where
       whole : 1 ≤ d
       whole = omega (arith, s .rise, bracket-rises)
 
       less : cost P n d t < cost P n d (b .lo-plan)
-      less = let f = eqb-false (d * u .distortion .0 + n * u .rate .0) (d * lo .distortion .0 + n * lo .rate .0) e in omega (
+      less = let f = eqb-false (d * u .distortion .0 + n * u .rate .0) (d * lo .distortion .0 + n * lo .rate .0) (sym e ∙ no) in omega (
         arith,
         totals-cost n d h,
         totals-cost n d (b .lo-totals),

@@ -3,7 +3,7 @@ use mathlib.Core.Path.{_≡_, refl}
 use Prim.Native.Nat.{ℕ, zero, suc, _+_, _-_, _*_, _≤_, _<_}
 use native.Mathlib.Nat.{mul-le-mul-left, mul-le-mul-right}
 use native.Mathlib.Omega.{arith}
-use Rattle.laws.proofs.Lists.{part}
+use Rattle.laws.proofs.Lists.{part-inside}
 use Rattle.tables.specs.Limits.{most-scans, most-settings, most-channels}
 use Rattle.tables.specs.Tables.{cells, cell, scratch-need}
 
@@ -34,7 +34,7 @@ bytes-small {C} {k} h g = omega (arith, mul-le-mul-left {m = k} {n = 261904} (4 
 pub cell-inside : (N Q i p q : ℕ) → i < N → p < Q → q < Q → cell Q i p q < cells N Q
 cell-inside N Q zero p q h l m = omega arith
 cell-inside N Q (suc i) p q h l m =
-    omega (arith, part Q {j = p} {m = Q} l, part (Q * Q) {j = i} {m = N - 1} (omega arith))
+    omega (arith, part-inside Q {j = p} {m = Q} l, part-inside (Q * Q) {j = i} {m = N - 1} (omega arith))
 
 -- the scratch of a call is a product, and small
 pub need-is : (N Q : ℕ) → N * Q ≡ scratch-need N Q

@@ -1,42 +1,47 @@
 -- The bytes of an answer, and how an answer and a refusal are told. Assumes nothing.
 use mathlib.Core.Path.{_≡_, refl, sym, ap, _∙_}
 use mathlib.Core.List.{List, [], _∷_, _++_, append-assoc, append-nil}
-use Prim.Native.Nat.{ℕ, _+_, _*_, _≤_, _<_, _^_}
+use Prim.Native.Nat.{ℕ, zero, suc, _+_, _*_, _≤_, _<_, _^_}
+use native.Mathlib.Numerals.{add-one}
 use native.Mathlib.Omega.{arith}
-use lib.ListN.{length, drop, length-append}
-use lib.Seq.{sets, sets-eq}
+use lib.ListN.{length, getD, take, drop, length-append}
+use lib.Seq.{sets, sets-eq, length-take-le}
 use borrow.Author.Tests.{ne-eqb}
 use Rattle.tables.specs.declared.refusal.Refusal.{Refusal}
 use Rattle.tables.specs.declared.refusal.Refusal.the-variants as refusal
 use Rattle.tables.specs.Refusals.{Reply, refused, answered, numberOf, carriedBy}
 use Rattle.tables.proofs.RefusalLaws.{never-zero}
 use Rattle.bytes.specs.Bytes.{le}
+use Rattle.checks.specs.declared.stage.Stage.{Stage}
+use Rattle.checks.specs.Checks.{or-answer}
+use Rattle.checks.specs.Stages.{ended}
 use Rattle.laws.proofs.Stores.{sets-append}
 use Rattle.bytes.proofs.NumberLaws.{length-le}
 use Rattle.telling.specs.Told.{eights, word-of, answer-after, Told}
-use Rattle.telling.specs.Parts.{Tellable}
+use Rattle.telling.specs.declared.Answer.{Answer}
+use Rattle.telling.specs.Parts.{Tellable, answer-reply}
 
--- the bytes of two runs of values
-pub eights-append : (v w : List ℕ) → eights (v ++ w) ≡ eights v ++ eights w
-eights-append [] w = refl
-eights-append (x ∷ v) w = ap (λ (l : List ℕ). le 8 x ++ l) (eights-append v w) ∙ sym (append-assoc (le 8 x) (eights v) (eights w))
-
-pub length-eights : (v : List ℕ) → length (eights v) ≡ 8 * length v
+length-eights : (v : List ℕ) → length (eights v) ≡ 8 * length v
 length-eights [] = refl
 length-eights (x ∷ v) = omega (arith, length-append (le 8 x) (eights v), length-le 8 x, length-eights v)
 
--- one value
-pub one-value : (d : List ℕ) {file : List ℕ} (at x : ℕ) → file ≡ sets d at (le 8 x) → file ≡ sets d at (eights (x ∷ []))
-one-value d at x e = e ∙ ap (sets d at) (sym (append-nil (le 8 x)))
+-- the bytes of one value more
+eights-more : (v : List ℕ) (i : ℕ) → i < length v → eights (take i v) ++ le 8 (getD v i 0) ≡ eights (take (suc i) v)
+eights-more [] i h = absurd (omega arith)
+eights-more (x ∷ v) zero h = sym (append-nil (le 8 x))
+eights-more (x ∷ v) (suc i) h =
+    append-assoc (le 8 x) (eights (take i v)) (le 8 (getD v i 0)) ∙ ap (λ (l : List ℕ). le 8 x ++ l) (eights-more v i (omega arith))
 
--- the values w are stored right behind the values v
-pub behind : (d : List ℕ) {file after : List ℕ} (at to : ℕ) (v w : List ℕ) → file ≡ sets d at (eights v) → after ≡ sets file to (eights w) →
-    to ≡ at + 8 * length v → after ≡ sets d at (eights (v ++ w))
-behind d at to v w e f p =
+-- one value more is stored right behind those before it
+pub value-more : (d : List ℕ) {before after : List ℕ} (v : List ℕ) (i : ℕ) → i < length v → before ≡ sets d 0 (eights (take i v)) →
+    after ≡ sets before (8 * i) (le 8 (getD v i 0)) → after ≡ sets d 0 (eights (take (i + 1) v))
+value-more d v i h e f =
+    let x = getD v i 0 in
+    let long : 8 * i ≡ 0 + length (eights (take i v)) = omega (arith, length-eights (take i v), length-take-le i v (omega arith)) in
     f
-    ∙ ap (λ (l : List ℕ). sets l to (eights w)) e
-    ∙ sets-append d (eights v) (eights w) at to (p ∙ ap (λ (n : ℕ). at + n) (sym (length-eights v)))
-    ∙ ap (sets d at) (sym (eights-append v w))
+    ∙ ap (λ (l : List ℕ). sets l (8 * i) (le 8 x)) e
+    ∙ sets-append d (eights (take i v)) (le 8 x) 0 (8 * i) long
+    ∙ ap (sets d 0) (eights-more v i h ∙ ap (λ (n : ℕ). eights (take n v)) (sym (add-one i)))
 
 pub number-small : (r : Refusal) → numberOf r ≤ 14
 number-small refusal.Scans = omega arith
@@ -57,6 +62,10 @@ number-small (refusal.Entry e) = omega arith
 pub word-refused : (r : Refusal) → word-of (refused r) ≡ numberOf r + 4294967296 * carriedBy r
 unfolding word-of
 word-refused r = rw (ne-eqb (numberOf r) 0 (never-zero r)) refl
+
+-- what an answer says, where it is known how it ended
+pub ended-as : (a : Answer) {s : Stage} → a .ended ≡ s → answer-reply a ≡ or-answer (ended s) (take (a .count) (a .values))
+ended-as a e = ap (λ (s : Stage). or-answer (ended s) (take (a .count) (a .values))) e
 
 -- an answer's values fit, and what a refusal carries is small
 pub tellable-answer : {reply : Reply} {n : ℕ} (v : List ℕ) → reply ≡ answered v → Tellable reply n → 8 * length v ≤ n

@@ -1,27 +1,32 @@
 // What goes back to a host: a number, and the values of an answer in the buffer that it lent, eight bytes each.
 use bytes::numbers::put_eight;
+use checks::stage::Stage;
 use planfile::read::ReadAnswer;
 use promise::AverageAnswer;
-use promise::AveragePlan;
 use promise::MinmaxAnswer;
-use promise::MinmaxPlan;
 use promise::PlanAnswer;
-use room::Room;
-use rules::Fields;
+use room::RoomAnswer;
 use tables::refusal::Refusal;
 use tables::refusal::carried;
 use tables::refusal::number;
-use walk::Totals;
 ghost use mathlib.Core.Path.{_≡_};
-ghost use mathlib.Core.List.{[], _∷_};
-ghost use Prim.Native.Nat.{_+_, _≤_, _<_, _^_};
-ghost use lib.ListN.{length};
+ghost use Prim.Native.Nat.{_*_, _≤_, _<_, _^_};
+ghost use lib.ListN.{length, take};
 ghost use lib.Seq.{sets};
-ghost use Rattle.tables.specs.Refusals.{refused, carriedBy};
-ghost use Rattle.planfile.specs.Reading.{«read-reply», «field-values»};
-ghost use Rattle.promise.specs.Promise.{«plan-reply», «minmax-reply», «average-reply», «total-values»};
+ghost use Rattle.tables.specs.Refusals.{refused, answered, carriedBy};
+ghost use Rattle.planfile.specs.Reading.{«read-reply»};
+ghost use Rattle.promise.specs.Promise.{«plan-reply», «minmax-reply», «average-reply»};
+ghost use Rattle.room.specs.Room.{«room-reply»};
 ghost use Rattle.telling.specs.Told.{eights, Told, «word-of», lent as Lent};
-ghost use Rattle.telling.specs.Parts.{Tellable, «room-values», «average-values»};
+ghost use Rattle.telling.specs.Parts.{Tellable, «answer-reply»};
+
+// How a call ended, and its values: the first `count` are told.
+pub struct Answer {
+    pub ended: Stage,
+    // as many as the longest answer has, that of the reader
+    pub values: [u64; 11],
+    pub count: usize,
+}
 
 // The room for settings: none where the answer would not fit, so that the call below refuses it in its place among the checks.
 pub fn lent(need: usize, answer: usize, room: usize) -> usize
@@ -41,107 +46,154 @@ pub fn word(r: Refusal) -> u64
     number(r) + 4294967296 * carried(r)
 }
 
-// Three values, one behind the other.
-fn put_three(answer: &mut [u8], at: usize, a: u64, b: u64, c: u64)
-    requires { ⌜ at + 24 ≤ length (now answer) ⌝ }
-    ensures { λ _. ⌜ now (answer .exit) ≡ sets (now (answer .entry)) at (eights (a ∷ b ∷ c ∷ [])) ⌝ }
+// The first `count` values, one behind the other.
+fn put_values(values: [u64; 11], count: usize, answer: &mut [u8])
+    requires { ⌜ (count ≤ 11) × (8 * count ≤ length (now answer)) ⌝ }
+    ensures { λ _. ⌜ now (answer .exit) ≡ sets (now (answer .entry)) 0 (eights (take count values)) ⌝ }
 {
-    put_eight(answer, at, a);
-    put_eight(answer, at + 8, b);
-    put_eight(answer, at + 16, c);
+    let mut i = 0;
+    while i < count {
+        put_eight(answer, 8 * i, values[i]);
+        i += 1;
+    }
 }
 
-pub fn put_room(room: Room, answer: &mut [u8])
-    requires { ⌜ 24 ≤ length (now answer) ⌝ }
-    ensures { λ _. ⌜ now (answer .exit) ≡ sets (now (answer .entry)) 0 (eights (room-values room)) ⌝ }
+// What goes back of an answer: 0 with its values in the buffer, or its refusal, which leaves the buffer as it was.
+pub fn tell(told: Answer, answer: &mut [u8]) -> u64
+    requires { ⌜ (told .count ≤ 11) × Tellable (answer-reply told) (length (now answer)) ⌝ }
+    ensures { λ r. ⌜ Told (answer-reply told) (now (answer .entry)) r (now (answer .exit)) ⌝ }
 {
-    put_three(answer, 0, room.cells, room.bytes, room.scratch);
+    let ended = told.ended;
+    match ended {
+        Stage::Passed => {
+            let values = told.values;
+            put_values(values, told.count, answer);
+            0
+        }
+        Stage::Stopped(r) => word(r),
+    }
 }
 
-fn put_plan(t: Totals, answer: &mut [u8])
-    requires { ⌜ 24 ≤ length (now answer) ⌝ }
-    ensures { λ _. ⌜ now (answer .exit) ≡ sets (now (answer .entry)) 0 (eights (total-values t)) ⌝ }
+// A call that answers.
+fn passed(values: [u64; 11], count: usize) -> Answer
+    requires { ⌜ count ≤ 11 ⌝ }
+    ensures { λ r. ⌜ (answer-reply r ≡ answered (take count values)) × (r .count ≤ 11) ⌝ }
 {
-    put_three(answer, 0, t.rate.0, t.distortion.0, t.peak);
+    Answer {
+        ended: Stage::Passed,
+        values,
+        count,
+    }
 }
 
-fn put_minmax(m: MinmaxPlan, answer: &mut [u8])
-    requires { ⌜ 32 ≤ length (now answer) ⌝ }
-    ensures { λ _. ⌜ now (answer .exit) ≡ sets (now (answer .entry)) 0 (eights (m .ceiling ∷ total-values (m .totals))) ⌝ }
+// A call that refuses: it has no values.
+fn stopped(why: Refusal) -> Answer
+    ensures { λ r. ⌜ (answer-reply r ≡ refused why) × (r .count ≤ 11) ⌝ }
 {
-    let t = m.totals;
-    put_eight(answer, 0, m.ceiling);
-    put_three(answer, 8, t.rate.0, t.distortion.0, t.peak);
+    Answer {
+        ended: Stage::Stopped(why),
+        values: [0; 11],
+        count: 0,
+    }
 }
 
-fn put_average(m: AveragePlan, answer: &mut [u8])
-    requires { ⌜ 48 ≤ length (now answer) ⌝ }
-    ensures { λ _. ⌜ now (answer .exit) ≡ sets (now (answer .entry)) 0 (eights (average-values m)) ⌝ }
+// cells, bytes, scratch
+pub fn room_answer(told: RoomAnswer) -> Answer
+    ensures { λ r. ⌜ (answer-reply r ≡ room-reply told) × (r .count ≤ 11) ⌝ }
 {
-    let t = m.totals;
-    put_three(answer, 0, m.n, m.d, t.rate.0);
-    put_three(answer, 24, t.distortion.0, t.peak, m.floor.0);
+    match told {
+        RoomAnswer::Given(g) => {
+            let values = [g.cells, g.bytes, g.scratch, 0, 0, 0, 0, 0, 0, 0, 0];
+            passed(values, 3)
+        }
+        RoomAnswer::Refused(r) => stopped(r),
+    }
 }
 
-fn put_fields(f: Fields, answer: &mut [u8])
-    requires { ⌜ 88 ≤ length (now answer) ⌝ }
-    ensures { λ _. ⌜ now (answer .exit) ≡ sets (now (answer .entry)) 0 (eights (field-values f)) ⌝ }
-{
-    put_three(answer, 0, f.scans, f.settings, f.law);
-    put_three(answer, 24, f.kind, f.budget, f.n);
-    put_three(answer, 48, f.d, f.rate.0, f.distortion.0);
-    put_eight(answer, 72, f.peak);
-    put_eight(answer, 80, f.floor.0);
-}
-
-pub fn tell_plan(told: PlanAnswer, answer: &mut [u8]) -> u64
-    requires { ⌜ Tellable (plan-reply told) (length (now answer)) ⌝ }
-    ensures { λ r. ⌜ Told (plan-reply told) (now (answer .entry)) r (now (answer .exit)) ⌝ }
+// rate, distortion, peak
+pub fn plan_answer(told: PlanAnswer) -> Answer
+    ensures { λ r. ⌜ (answer-reply r ≡ plan-reply told) × (r .count ≤ 11) ⌝ }
 {
     match told {
         PlanAnswer::Planned(t) => {
-            put_plan(t, answer);
-            0
+            let values = [t.rate.0, t.distortion.0, t.peak, 0, 0, 0, 0, 0, 0, 0, 0];
+            passed(values, 3)
         }
-        PlanAnswer::Refused(r) => word(r),
+        PlanAnswer::Refused(r) => stopped(r),
     }
 }
 
-pub fn tell_minmax(told: MinmaxAnswer, answer: &mut [u8]) -> u64
-    requires { ⌜ Tellable (minmax-reply told) (length (now answer)) ⌝ }
-    ensures { λ r. ⌜ Told (minmax-reply told) (now (answer .entry)) r (now (answer .exit)) ⌝ }
+// X, rate, distortion, peak
+pub fn minmax_answer(told: MinmaxAnswer) -> Answer
+    ensures { λ r. ⌜ (answer-reply r ≡ minmax-reply told) × (r .count ≤ 11) ⌝ }
 {
     match told {
         MinmaxAnswer::Planned(m) => {
-            put_minmax(m, answer);
-            0
+            let values = [
+                m.ceiling,
+                m.totals.rate.0,
+                m.totals.distortion.0,
+                m.totals.peak,
+                0,
+                0,
+                0,
+                0,
+                0,
+                0,
+                0,
+            ];
+            passed(values, 4)
         }
-        MinmaxAnswer::Refused(r) => word(r),
+        MinmaxAnswer::Refused(r) => stopped(r),
     }
 }
 
-pub fn tell_average(told: AverageAnswer, answer: &mut [u8]) -> u64
-    requires { ⌜ Tellable (average-reply told) (length (now answer)) ⌝ }
-    ensures { λ r. ⌜ Told (average-reply told) (now (answer .entry)) r (now (answer .exit)) ⌝ }
+// n, d, rate, distortion, peak, floor
+pub fn average_answer(told: AverageAnswer) -> Answer
+    ensures { λ r. ⌜ (answer-reply r ≡ average-reply told) × (r .count ≤ 11) ⌝ }
 {
     match told {
-        AverageAnswer::Planned(m) => {
-            put_average(m, answer);
-            0
+        AverageAnswer::Planned(a) => {
+            let values = [
+                a.n,
+                a.d,
+                a.totals.rate.0,
+                a.totals.distortion.0,
+                a.totals.peak,
+                a.floor.0,
+                0,
+                0,
+                0,
+                0,
+                0,
+            ];
+            passed(values, 6)
         }
-        AverageAnswer::Refused(r) => word(r),
+        AverageAnswer::Refused(r) => stopped(r),
     }
 }
 
-pub fn tell_fields(told: ReadAnswer, answer: &mut [u8]) -> u64
-    requires { ⌜ Tellable (read-reply told) (length (now answer)) ⌝ }
-    ensures { λ r. ⌜ Told (read-reply told) (now (answer .entry)) r (now (answer .exit)) ⌝ }
+// scans, settings, law, kind, budget, n, d, rate, distortion, peak, floor
+pub fn read_answer(told: ReadAnswer) -> Answer
+    ensures { λ r. ⌜ (answer-reply r ≡ read-reply told) × (r .count ≤ 11) ⌝ }
 {
     match told {
         ReadAnswer::Read(f) => {
-            put_fields(f, answer);
-            0
+            let values = [
+                f.scans,
+                f.settings,
+                f.law,
+                f.kind,
+                f.budget,
+                f.n,
+                f.d,
+                f.rate.0,
+                f.distortion.0,
+                f.peak,
+                f.floor.0,
+            ];
+            passed(values, 11)
         }
-        ReadAnswer::Refused(r) => word(r),
+        ReadAnswer::Refused(r) => stopped(r),
     }
 }

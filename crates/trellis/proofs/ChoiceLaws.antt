@@ -7,27 +7,27 @@ use native.Mathlib.Decide.{decLt}
 use native.Mathlib.Omega.{arith}
 use lib.ListN.{length, getD, set, length-set}
 use lib.Seq.{getD-set-same, getD-set-other}
-use Rattle.laws.proofs.Lists.{part}
+use Rattle.laws.proofs.Lists.{part-inside}
 use Rattle.tables.specs.Tables.{scratch-need}
 use Rattle.trellis.specs.Choices.{choice, ChoiceStored}
 
 -- the byte of a choice is one of the scratch of every call that has its scan
 pub place-inside : (Q i p room : ℕ) → p < Q → scratch-need (suc i) Q ≤ room → i * Q + p < room
 unfolding scratch-need
-place-inside Q i p room h g = omega (arith, part Q {j = i} {m = suc i} (omega arith))
+place-inside Q i p room h g = omega (arith, part-inside Q {j = i} {m = suc i} (omega arith))
 
 -- .. and no byte beyond that scratch
 beyond-place : (Q i p N k : ℕ) → p < Q → i < N → scratch-need N Q ≤ k → k ≡ i * Q + p → ⊥
 unfolding scratch-need
-beyond-place Q i p N k h g l e = omega (arith, part Q {j = i} {m = N} g)
+beyond-place Q i p N k h g l e = omega (arith, part-inside Q {j = i} {m = N} g)
 
 -- two choices at one place are one
 one-place : (Q i p j r : ℕ) → p < Q → r < Q → j * Q + r ≡ i * Q + p → (j ≡ i) × (r ≡ p)
 one-place Q i p j r h g e = by-order (decLt j i) (decLt i j)
   where
     by-order : Dec (j < i) → Dec (i < j) → (j ≡ i) × (r ≡ p)
-    by-order (yes l) d = absurd (omega (arith, part Q {j = j} {m = i} l))
-    by-order (no l) (yes m) = absurd (omega (arith, part Q {j = i} {m = j} m))
+    by-order (yes l) d = absurd (omega (arith, part-inside Q {j = j} {m = i} l))
+    by-order (no l) (yes m) = absurd (omega (arith, part-inside Q {j = i} {m = j} m))
     by-order (no l) (no m) = let z : j ≡ i = omega arith in (z, let f = (rw z at e) in omega arith)
 
 -- a store at its place stores the choice

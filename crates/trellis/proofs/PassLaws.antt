@@ -9,7 +9,7 @@ use lib.Dec.{ltb}
 use lib.ListN.{length, getD, replicate, getD-replicate}
 use borrow.Author.Tests.{ltb-true, ltb-false}
 use Rattle.criteria.specs.Choice.{NoneAllowed}
-use Rattle.laws.proofs.Lists.{part}
+use Rattle.laws.proofs.Lists.{part-inside}
 use Rattle.tables.specs.Series.{Series, total}
 use Rattle.tables.specs.Law.{Law, Follows}
 use Rattle.tables.specs.Tables.{Table, cells, series}
@@ -35,7 +35,7 @@ sixteen-zero = (refl, λ p h. ap length (getD-replicate 16 p (replicate 16 0) []
 
 -- the last cell of scan i's square
 pub square-ends : (N Q i : ℕ) → 0 < i → i < N → Q + (i - 1) * (Q * Q) + Q * Q ≤ cells N Q
-square-ends N Q i h g = omega (arith, part (Q * Q) {j = i - 1} {m = N - 1} (omega arith))
+square-ends N Q i h g = omega (arith, part-inside (Q * Q) {j = i - 1} {m = N - 1} (omega arith))
 
 -- what may follow at a later scan is what the law allows
 follows-later : (law : Law) (i p q : ℕ) → 0 < i → law p q → Follows law i p q

@@ -19,19 +19,19 @@ use Rattle.tables.specs.Law.{law-out}
 use Rattle.laws.proofs.Tests.{never}
 use Rattle.reading.specs.Fed.{as-words, taken-of}
 use Rattle.reading.specs.declared.State.{State}
-use Rattle.workbench.specs.Asked.{Asked, bad-input, out-of-range, too-large, to-plan, asked, most-cells, in-range}
+use Rattle.workbench.specs.Request.{Request, bad-input, out-of-range, too-large, to-plan, request, most-cells, in-range}
 use Rattle.workbench.specs.Done.{settles}
-use Rattle.workbench.specs.Parts.{Fits, Heads, Asks, plan-asked, scans, settings, law, budget, rates, distortions, out-by}
+use Rattle.workbench.specs.Parts.{Planable, Heads, Requests, plan-requested, scans, settings, law, budget, rates, distortions, out-by}
 use Rattle.workbench.specs.declared.judge.Head.{Head}
 use Rattle.workbench.specs.declared.judge.Head.the-variants as head
-use Rattle.workbench.proofs.AskedLaws.{settled, rest-asked, by-words, four-given, too-few, rest-other, rest-cells, all-taken, not-taken}
+use Rattle.workbench.proofs.RequestLaws.{settled, rest-requested, by-words, four-given, too-few, rest-other, rest-cells, all-taken, not-taken}
 
 -- where the ranges pass, N is in its range
 pub scans-inside : (n : List ℕ) → out-by n ≡ none → scans-out (scans n) ≡ false
 scans-inside n e = none-when (scans-out (scans n)) Scans (none-else (when (scans-out (scans n)) Scans) _ e .0)
 
 -- a table that is planned is not too large
-not-large : {n : List ℕ} {k : ℕ} → Fits n k → ltb most-cells (cells (scans n) (settings n)) ≡ false
+not-large : {n : List ℕ} {k : ℕ} → Planable n k → ltb most-cells (cells (scans n) (settings n)) ≡ false
 not-large {n} {k} f = let c = f .counted in let m = f .few in le-ltb most-cells (cells (scans n) (settings n)) (omega arith)
 
 -- whether they settle what is asked
@@ -65,42 +65,42 @@ head-settles n (head.Cells k) f =
     settles-by-size n (f .in-range) ∙ not-large f
 
 -- what is asked beyond the first four
-abbrev left-asked : List ℕ → State → Asked
-left-asked n s = cond (s .more) bad-input (rest-asked n (as-words (drop 4 (taken-of n s)) ++ []))
+abbrev left-requested : List ℕ → State → Request
+left-requested n s = cond (s .more) bad-input (rest-requested n (as-words (drop 4 (taken-of n s)) ++ []))
 
 module _ (n : List ℕ) (s : State) (len : length n ≡ 8196) where
-  pub few-asked : s .taken < 4 → Asks n s bad-input
-  few-asked h text fed = by-more (s .more) refl
+  pub few-requested : s .taken < 4 → Requests n s bad-input
+  few-requested h text fed = by-more (s .more) refl
     where
-      by-more : (b : Bool) → s .more ≡ b → asked text ≡ bad-input
+      by-more : (b : Bool) → s .more ≡ b → request text ≡ bad-input
       by-more true e = not-taken text n s len fed e ∙ ap (λ (t : Bool). cond t bad-input (settled n bad-input)) (lt-ltb (s .taken) 4 h)
       by-more false e = by-words text (all-taken text n s fed e .1) ∙ too-few n (s .taken) [] h (λ j. refl)
 
-  four-asked : 4 ≤ s .taken → Asks n s (settled n (left-asked n s))
-  four-asked h text fed = by-more (s .more) refl
+  four-requested : 4 ≤ s .taken → Requests n s (settled n (left-requested n s))
+  four-requested h text fed = by-more (s .more) refl
     where
       by-more : (b : Bool) → s .more ≡ b →
-          asked text ≡ settled n (cond b bad-input (rest-asked n (as-words (drop 4 (taken-of n s)) ++ [])))
+          request text ≡ settled n (cond b bad-input (rest-requested n (as-words (drop 4 (taken-of n s)) ++ [])))
       by-more true e = not-taken text n s len fed e ∙ ap (λ (t : Bool). cond t bad-input (settled n bad-input)) (le-ltb (s .taken) 4 h)
       by-more false e = let t = all-taken text n s fed e in by-words text (t .1) ∙ four-given n (s .taken) [] h (t .0)
 
-  pub refused-asked : {r : Refusal} → 4 ≤ s .taken → out-by n ≡ some r → Asks n s (out-of-range r)
-  refused-asked h e text fed =
-      four-asked h text fed
-      ∙ ap (λ (o : Option Refusal). in-range o (cond (ltb most-cells (cells (scans n) (settings n))) too-large (left-asked n s))) e
+  pub refused-requested : {r : Refusal} → 4 ≤ s .taken → out-by n ≡ some r → Requests n s (out-of-range r)
+  refused-requested h e text fed =
+      four-requested h text fed
+      ∙ ap (λ (o : Option Refusal). in-range o (cond (ltb most-cells (cells (scans n) (settings n))) too-large (left-requested n s))) e
 
-  pub large-asked : 4 ≤ s .taken → out-by n ≡ none → most-cells < cells (scans n) (settings n) → Asks n s too-large
-  large-asked h e g text fed =
-      four-asked h text fed
-      ∙ ap (λ (o : Option Refusal). in-range o (cond (ltb most-cells (cells (scans n) (settings n))) too-large (left-asked n s))) e
-      ∙ ap (λ (b : Bool). cond b too-large (left-asked n s)) (lt-ltb _ _ g)
+  pub large-requested : 4 ≤ s .taken → out-by n ≡ none → most-cells < cells (scans n) (settings n) → Requests n s too-large
+  large-requested h e g text fed =
+      four-requested h text fed
+      ∙ ap (λ (o : Option Refusal). in-range o (cond (ltb most-cells (cells (scans n) (settings n))) too-large (left-requested n s))) e
+      ∙ ap (λ (b : Bool). cond b too-large (left-requested n s)) (lt-ltb _ _ g)
 
   -- in range and not too large: the rest decides
-  rest-decides : {k : ℕ} → 4 ≤ s .taken → Fits n k → Asks n s (left-asked n s)
+  rest-decides : {k : ℕ} → 4 ≤ s .taken → Planable n k → Requests n s (left-requested n s)
   rest-decides h f text fed =
-      four-asked h text fed
-      ∙ ap (λ (o : Option Refusal). in-range o (cond (ltb most-cells (cells (scans n) (settings n))) too-large (left-asked n s))) (f .in-range)
-      ∙ ap (λ (b : Bool). cond b too-large (left-asked n s)) (not-large f)
+      four-requested h text fed
+      ∙ ap (λ (o : Option Refusal). in-range o (cond (ltb most-cells (cells (scans n) (settings n))) too-large (left-requested n s))) (f .in-range)
+      ∙ ap (λ (b : Bool). cond b too-large (left-requested n s)) (not-large f)
 
   -- the numbers after the first four
   after-four : (k : ℕ) → k ≤ most-cells → s .taken ≡ 4 + 2 * k → drop 4 (taken-of n s) ≡ take (2 * k) (drop 4 n)
@@ -118,9 +118,9 @@ module _ (n : List ℕ) (s : State) (len : length n ≡ 8196) where
       ∙ drop-at (take k m) (take k (drop k m)) k (omega arith)
       ∙ ap (λ (x : List ℕ). take k x) (drop-drop k 4 n)
 
-  pub ready-asked : {k : ℕ} → 4 ≤ s .taken → Fits n k → (not (s .more) && eqb (s .taken) (4 + 2 * k)) ≡ true →
-      Asks n s (plan-asked n k)
-  ready-asked {k} h f e text fed =
+  pub ready-requested : {k : ℕ} → 4 ≤ s .taken → Planable n k → (not (s .more) && eqb (s .taken) (4 + 2 * k)) ≡ true →
+      Requests n s (plan-requested n k)
+  ready-requested {k} h f e text fed =
       let q = both (s .more) _ e in
       let t = eqb-true _ _ (q .1) in
       let c = f .counted in
@@ -131,8 +131,8 @@ module _ (n : List ℕ) (s : State) (len : length n ≡ 8196) where
       let long : length cells-read ≡ 2 * cells (scans n) (settings n) =
       omega (arith, length-take (2 * k) (drop 4 n), length-drop 4 n) in
       rest-decides h f text fed
-      ∙ ap (λ (b : Bool). cond b bad-input (rest-asked n (as-words (drop 4 (taken-of n s)) ++ []))) (q .0)
-      ∙ ap (λ (l : List ℕ). rest-asked n (as-words l ++ [])) m
+      ∙ ap (λ (b : Bool). cond b bad-input (rest-requested n (as-words (drop 4 (taken-of n s)) ++ []))) (q .0)
+      ∙ ap (λ (l : List ℕ). rest-requested n (as-words l ++ [])) m
       ∙ rest-cells n cells-read long
       ∙ ap (λ (j : ℕ). planned (take j cells-read) (drop j cells-read)) (sym c)
       ∙ ap (λ (l : List ℕ). planned l (drop k cells-read)) (take-take k (2 * k) (drop 4 n) (omega arith))
@@ -142,10 +142,10 @@ module _ (n : List ℕ) (s : State) (len : length n ≡ 8196) where
       both true b e = never (cc)
       both false b e = (refl, e)
 
-  pub unread-asked : {k : ℕ} → 4 ≤ s .taken → Fits n k → (not (s .more) && eqb (s .taken) (4 + 2 * k)) ≡ false → Asks n s bad-input
-  unread-asked {k} h f e text fed = rest-decides h f text fed ∙ by-more (s .more) refl
+  pub unread-requested : {k : ℕ} → 4 ≤ s .taken → Planable n k → (not (s .more) && eqb (s .taken) (4 + 2 * k)) ≡ false → Requests n s bad-input
+  unread-requested {k} h f e text fed = rest-decides h f text fed ∙ by-more (s .more) refl
     where
-      by-more : (b : Bool) → s .more ≡ b → cond b bad-input (rest-asked n (as-words (drop 4 (taken-of n s)) ++ [])) ≡ bad-input
+      by-more : (b : Bool) → s .more ≡ b → cond b bad-input (rest-requested n (as-words (drop 4 (taken-of n s)) ++ [])) ≡ bad-input
       by-more true m = refl
       by-more false m =
           let other = eqb-false (s .taken) (4 + 2 * k) (rw m at e) in

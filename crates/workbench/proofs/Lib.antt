@@ -1,6 +1,6 @@
--- What a text asks, from the numbers taken of it (AskedLaws) and by the tests of the code (JudgeLaws); what two lines leave in the
+-- What a text asks, from the numbers taken of it (RequestLaws) and by the tests of the code (JudgeLaws); what two lines leave in the
 -- buffer (LineLaws); and that there is one output for a text (Settled).
-pub mod AskedLaws
+pub mod RequestLaws
 pub mod JudgeLaws
 pub mod LineLaws
 pub mod Settled

@@ -6,24 +6,17 @@ use native.Mathlib.Omega.{arith}
 use lib.ListN.{length, take, drop, replicate, length-take}
 use lib.Seq.{sets, sets-eq, length-sets, take-at}
 use Rattle.tables.specs.declared.refusal.Refusal.{Refusal}
-use Rattle.tables.specs.Refusals.{refused}
-use Rattle.promise.specs.declared.AverageAnswer.{AverageAnswer}
-use Rattle.promise.specs.declared.MinmaxAnswer.{MinmaxAnswer}
 use Rattle.checks.specs.Planning.{asking}
-use Rattle.promise.specs.Promise.{AveragePromise, MinmaxPromise, average-reply, minmax-reply}
-use Rattle.printing.specs.Lines.{ave-line, minmax-line}
-use Rattle.printing.specs.Parts.{Put}
-use Rattle.printing.proofs.PutLaws.{put-so, next}
+use Rattle.printing.specs.Lines.{line, ave, minmax}
+use Rattle.printing.specs.Put.{Put}
+use Rattle.printing.specs.declared.line.Said.the-variants.{Refused}
+use Rattle.printing.proofs.PutLaws.{next}
 use Rattle.reading.specs.Fed.{Feeds}
 use Rattle.reading.specs.declared.State.{State}
-use Rattle.workbench.specs.Asked.{Asked, out-of-range, to-plan}
-use Rattle.workbench.specs.Written.{WrittenFor, both-refused, both-planned}
+use Rattle.workbench.specs.Request.{Request, out-of-range, to-plan}
+use Rattle.workbench.specs.Written.{PromiseOf, PlannedLine, AveLine, MinmaxLine, WrittenFor, both-refused, both-planned}
 use Rattle.workbench.specs.Done.{Answers}
-use Rattle.workbench.specs.Parts.{PutAve, PutMinmax, Holds, Asks, plan-asked, scans, settings, law, budget, rates, distortions}
-
--- what the function of a line ensures
-pub line-put : {d e : List ℕ} {at r most : ℕ} (line : List ℕ) → (r ≡ at + length line) × ((e ≡ sets d at line) × (r ≤ most)) → Put d at line e r
-line-put line p = put-so line (p .0, p .1 .0)
+use Rattle.workbench.specs.Parts.{RightLine, Holds, Requests, plan-requested, scans, settings, law, budget, rates, distortions}
 
 -- the first settings of a plan
 pub prefix-long : (N : ℕ) (plan : List ℕ) → N ≤ length plan → N ≡ length (take N plan)
@@ -33,27 +26,18 @@ prefix-long N plan h = let l : length (take N plan) ≡ min N (length plan) = le
 pub few-bytes : (N : ℕ) (plan : List ℕ) → N ≤ 1024 → 256 + 4 * length (take N plan) ≤ 4352
 few-bytes N plan h = let l : length (take N plan) ≡ min N (length plan) = length-take N plan in omega arith
 
-module _ {N Q l B : ℕ} {rs ds before after plan scratch : List ℕ} {at r : ℕ} (small : N ≤ 1024) where
-  pub ave-put : (answer : AverageAnswer) → AveragePromise (asking N Q l rs ds 1024 4096) B (replicate 1024 0) (replicate 4096 0) answer plan scratch →
-      Put before at (ave-line (average-reply answer) (take N plan)) after r → r ≤ at + (256 + 4 * length (take N plan)) →
-      PutAve N Q l B rs ds before at after r
-  ave-put answer p u h = record {
-    line = ave-line (average-reply answer) (take N plan);
-    right = record { given = answer; plan = plan; scratch = scratch; kept = p; written = refl };
-    put = u;
-    short = omega (arith, few-bytes N plan small);
-  }
-
-  pub minmax-put : (answer : MinmaxAnswer) → MinmaxPromise (asking N Q l rs ds 1024 4096) B (replicate 1024 0) (replicate 4096 0) answer plan scratch
-      →
-      Put before at (minmax-line (minmax-reply answer) (take N plan)) after r → r ≤ at + (256 + 4 * length (take N plan)) →
-      PutMinmax N Q l B rs ds before at after r
-  minmax-put answer p u h = record {
-    line = minmax-line (minmax-reply answer) (take N plan);
-    right = record { given = answer; plan = plan; scratch = scratch; kept = p; written = refl };
-    put = u;
-    short = omega (arith, few-bytes N plan small);
-  }
+-- the line of the answer that a call gave
+pub given-line : {Answer : Type 0} (promise : PromiseOf Answer) (line-of : Answer → List ℕ → List ℕ) {N Q l B : ℕ}
+    {rs ds before after plan scratch : List ℕ} {at r : ℕ} → N ≤ 1024 → (answer : Answer) →
+    promise (asking N Q l rs ds 1024 4096) B (replicate 1024 0) (replicate 4096 0) answer plan scratch →
+    Put before at (line-of answer (take N plan)) after r → r ≤ at + (256 + 4 * length (take N plan)) →
+    RightLine (PlannedLine promise line-of N Q l B rs ds) before at after r
+given-line promise line-of {N = N} {plan = plan} {scratch = scratch} small answer p u h = record {
+  line = line-of answer (take N plan);
+  right = record { given = answer; plan = plan; scratch = scratch; kept = p; written = refl };
+  put = u;
+  short = omega (arith, few-bytes N plan small);
+}
 
 -- the two parts of the numbers that are lent
 rates-part : (n : List ℕ) (k : ℕ) → take (4 + k - 4) (drop 4 n) ≡ rates n k
@@ -63,9 +47,9 @@ distortions-part : (n : List ℕ) (k : ℕ) → take (4 + k + k - (4 + k)) (drop
 distortions-part n k = ap (λ (j : ℕ). take j (drop (4 + k) n)) (let e : 4 + k + k - (4 + k) ≡ k = omega arith in e)
 
 -- what is planned is what was asked
-pub read-asked : (n : List ℕ) (k : ℕ) {N Q l B : ℕ} → N ≡ scans n → Q ≡ settings n → l ≡ law n → B ≡ budget n →
-    plan-asked n k ≡ to-plan N Q l B (take (4 + k - 4) (drop 4 n)) (take (4 + k + k - (4 + k)) (drop (4 + k) n))
-read-asked n k {N} {Q} {l} {B} a b c d =
+pub read-requested : (n : List ℕ) (k : ℕ) {N Q l B : ℕ} → N ≡ scans n → Q ≡ settings n → l ≡ law n → B ≡ budget n →
+    plan-requested n k ≡ to-plan N Q l B (take (4 + k - 4) (drop 4 n)) (take (4 + k + k - (4 + k)) (drop (4 + k) n))
+read-requested n k {N} {Q} {l} {B} a b c d =
     let rs = rates-part n k in
     let ds = distortions-part n k in
     cc
@@ -88,16 +72,16 @@ both-put {d} {e} {f} {a} {b} {m} {r} u w h =
     let z : Put d 0 (a ++ b) f r = next u w in
     alone-put d (a ++ b) (z .end, z .so) (omega (arith, z .end))
 
-pub refused-put : {x : Refusal} {d e f : List ℕ} {m r : ℕ} → Put d 0 (ave-line (refused x) []) e m → Put e m (minmax-line (refused x) []) f r →
+pub refused-put : {x : Refusal} {d e f : List ℕ} {m r : ℕ} → Put d 0 (line ave (Refused x) []) e m → Put e m (line minmax (Refused x) []) f r →
     r ≤ length d → Holds (out-of-range x) r f
 refused-put {x} u w h = let z = both-put u w h in (z .0, rw (z .1) (both-refused x))
 
-pub planned-put : {N Q l B : ℕ} {rs ds d e f : List ℕ} {m r : ℕ} {a : Asked} → a ≡ to-plan N Q l B rs ds → PutAve N Q l B rs ds d 0 e m →
-    PutMinmax N Q l B rs ds e m f r → 8704 ≤ length d → Holds a r f
+pub planned-put : {N Q l B : ℕ} {rs ds d e f : List ℕ} {m r : ℕ} {a : Request} → a ≡ to-plan N Q l B rs ds → RightLine (AveLine N Q l B rs ds) d 0 e m →
+    RightLine (MinmaxLine N Q l B rs ds) e m f r → 8704 ≤ length d → Holds a r f
 planned-put {N} {Q} {l} {B} {rs} {ds} q u w h =
     let z = both-put (u .put) (w .put) (omega (arith, u .short, w .short)) in
     (z .0, rw (z .1, q) (both-planned N Q l B rs ds (u .line) (w .line) (u .right) (w .right)))
 
 -- what is written for what the ended text asks is written for the text
-pub answers : {n m out : List ℕ} {s e : State} {a : Asked} → Feeds n (32 ∷ []) s m e → Asks m e a → WrittenFor a out → Answers n s out
+pub answers : {n m out : List ℕ} {s e : State} {a : Request} → Feeds n (32 ∷ []) s m e → Requests m e a → WrittenFor a out → Answers n s out
 answers f q w = λ text fed. rw (q text (f text fed)) w

@@ -10,7 +10,7 @@ use Rattle.checks.specs.Planning.{scans-out, settings-out}
 use Rattle.tables.specs.Law.{law-out}
 use Rattle.reading.specs.Fed.{Fed}
 use Rattle.reading.specs.declared.State.{State}
-use Rattle.workbench.specs.Asked.{asked, most-cells}
+use Rattle.workbench.specs.Request.{request, most-cells}
 use Rattle.workbench.specs.Written.{Writes}
 
 -- the first four numbers settle what is written: "reads no further"
@@ -19,7 +19,7 @@ settles h = scans-out (getD h 0 0) || settings-out (getD h 1 0) || law-out (getD
 
 -- whatever follows the text that was read, it asks the same
 abbrev pub Decided : List ℕ → State → Type 0
-Decided numbers s = (text : List ℕ) → Fed text numbers s → (rest : List ℕ) → asked (text ++ rest) ≡ asked text
+Decided numbers s = (text : List ℕ) → Fed text numbers s → (rest : List ℕ) → request (text ++ rest) ≡ request text
 
 -- these are the lines for the text that was read
 abbrev pub Answers : List ℕ → State → List ℕ → Type 0

@@ -8,11 +8,11 @@ use lib.ListN.{length, getD, take, drop}
 use Rattle.tables.specs.declared.refusal.Refusal.{Refusal}
 use Rattle.tables.specs.Tables.{cells}
 use Rattle.checks.specs.Planning.{scans-out}
-use Rattle.printing.specs.Parts.{Put}
+use Rattle.printing.specs.Put.{Put}
 use Rattle.reading.specs.Fed.{Fed}
 use Rattle.reading.specs.declared.State.{State}
-use Rattle.workbench.specs.Asked.{Asked, asked, bad-input, out-of-range, too-large, to-plan, range-refusal, most-cells}
-use Rattle.workbench.specs.Written.{AveLine, MinmaxLine, WrittenFor}
+use Rattle.workbench.specs.Request.{Request, request, bad-input, out-of-range, too-large, to-plan, range-refusal, most-cells}
+use Rattle.workbench.specs.Written.{WrittenFor}
 use Rattle.workbench.specs.declared.judge.Head.{Head}
 use Rattle.workbench.specs.declared.judge.Head.the-variants as head
 use Rattle.workbench.specs.declared.judge.Verdict.{Verdict}
@@ -42,11 +42,11 @@ abbrev pub distortions : List ℕ → ℕ → List ℕ
 distortions n k = take k (drop (4 + k) n)
 
 -- what the numbers ask, where they are those of two tables of k cells
-abbrev pub plan-asked : List ℕ → ℕ → Asked
-plan-asked n k = to-plan (scans n) (settings n) (law n) (budget n) (rates n k) (distortions n k)
+abbrev pub plan-requested : List ℕ → ℕ → Request
+plan-requested n k = to-plan (scans n) (settings n) (law n) (budget n) (rates n k) (distortions n k)
 
 -- a table that is planned
-pub record Fits (n : List ℕ) (k : ℕ) : Type 0 where
+pub record Planable (n : List ℕ) (k : ℕ) : Type 0 where
   pub in-range : out-by n ≡ none
   pub scans-in : scans-out (scans n) ≡ false
   pub counted : k ≡ cells (scans n) (settings n)
@@ -56,31 +56,25 @@ pub record Fits (n : List ℕ) (k : ℕ) : Type 0 where
 abbrev pub Heads : List ℕ → Head → Type 0
 Heads n (head.Refused r) = out-by n ≡ some r
 Heads n head.TooLarge = (out-by n ≡ none) × (most-cells < cells (scans n) (settings n))
-Heads n (head.Cells k) = Fits n k
+Heads n (head.Cells k) = Planable n k
 
 -- whatever text was read, this is asked; a separator has ended it
-abbrev pub Asks : List ℕ → State → Asked → Type 0
-Asks n s a = (text : List ℕ) → Fed (text ++ (32 ∷ [])) n s → asked text ≡ a
+abbrev pub Requests : List ℕ → State → Request → Type 0
+Requests n s a = (text : List ℕ) → Fed (text ++ (32 ∷ [])) n s → request text ≡ a
 
-abbrev pub Judged : List ℕ → State → Verdict → Type 0
-Judged n s verdict.BadInput = Asks n s bad-input
-Judged n s (verdict.OutOfRange r) = Asks n s (out-of-range r)
-Judged n s verdict.TooLarge = Asks n s too-large
-Judged n s (verdict.Ready k) = Fits n k × Asks n s (plan-asked n k)
+abbrev pub VerdictOf : List ℕ → State → Verdict → Type 0
+VerdictOf n s verdict.BadInput = Requests n s bad-input
+VerdictOf n s (verdict.OutOfRange r) = Requests n s (out-of-range r)
+VerdictOf n s verdict.TooLarge = Requests n s too-large
+VerdictOf n s (verdict.Ready k) = Planable n k × Requests n s (plan-requested n k)
 
--- the line that was put is the plan's, and it leaves room for the other
-pub record PutAve (N Q law B : ℕ) (rates distortions before : List ℕ) (at : ℕ) (after : List ℕ) (r : ℕ) : Type 0 where
+-- the line that was put is right, and it leaves room for the other
+pub record RightLine (Right : List ℕ → Type 0) (before : List ℕ) (at : ℕ) (after : List ℕ) (r : ℕ) : Type 0 where
   pub line : List ℕ
-  pub right : AveLine N Q law B rates distortions line
-  pub put : Put before at line after r
-  pub short : r ≤ at + 4352
-
-pub record PutMinmax (N Q law B : ℕ) (rates distortions before : List ℕ) (at : ℕ) (after : List ℕ) (r : ℕ) : Type 0 where
-  pub line : List ℕ
-  pub right : MinmaxLine N Q law B rates distortions line
+  pub right : Right line
   pub put : Put before at line after r
   pub short : r ≤ at + 4352
 
 -- the first r bytes are what is written for this
-abbrev pub Holds : Asked → ℕ → List ℕ → Type 0
+abbrev pub Holds : Request → ℕ → List ℕ → Type 0
 Holds a r out = (r ≤ length out) × WrittenFor a (take r out)

@@ -13,7 +13,7 @@ ghost use mathlib.Core.Bool.{not, _&&_};
 ghost use Prim.Native.Nat.{_+_, _*_, _≤_, _<_};
 ghost use lib.Dec.{eqb};
 ghost use lib.ListN.{length};
-ghost use Rattle.workbench.specs.Parts.{Heads, Judged};
+ghost use Rattle.workbench.specs.Parts.{Heads, VerdictOf};
 
 // The cells of the largest table that is planned.
 const MOST_CELLS: u64 = 4096;
@@ -55,7 +55,7 @@ pub fn first_four(numbers: &[u32]) -> Head
 // Of a text that a separator has ended: the first four numbers, if there are so many, and then whether the rest are the cells.
 pub fn judge(s: State, numbers: &[u32]) -> Verdict
     requires { ⌜ length (now numbers) ≡ 8196 ⌝ }
-    ensures { λ r. ⌜ Judged (now (numbers .entry)) s r ⌝ }
+    ensures { λ r. ⌜ VerdictOf (now (numbers .entry)) s r ⌝ }
 {
     if s.taken < 4 {
         return Verdict::BadInput;

@@ -2,16 +2,17 @@
 use bytes::cast::cell_to_number;
 use planner::average::average_plan;
 use planner::minmax::minmax_plan;
-use printing::line::ave_line;
-use printing::line::minmax_line;
-use promise::AverageAnswer;
-use promise::MinmaxAnswer;
+use printing::line::Said;
+use printing::line::average_said;
+use printing::line::minmax_said;
+use printing::line::put_line;
 use tables::refusal::Refusal;
 ghost use mathlib.Core.Path.{_≡_};
 ghost use Prim.Native.Nat.{_+_, _≤_};
 ghost use lib.ListN.{length};
-ghost use Rattle.workbench.specs.Asked.{«out-of-range»};
-ghost use Rattle.workbench.specs.Parts.{Fits, PutAve, PutMinmax, Holds, «plan-asked»};
+ghost use Rattle.workbench.specs.Request.{«out-of-range»};
+ghost use Rattle.workbench.specs.Parts.{Planable, RightLine, Holds, «plan-requested»};
+ghost use Rattle.workbench.specs.Written.{AveLine, MinmaxLine};
 
 // The first line of a table that is planned, with buffers of zeros that are large enough for every such table.
 fn average_at(
@@ -25,7 +26,7 @@ fn average_at(
     at: usize,
 ) -> usize
     requires { ⌜ (scans ≤ 1024) × (at + 4352 ≤ length (now out)) ⌝ }
-    ensures { λ r. ⌜ PutAve scans settings law budget (now (rates .entry)) (now (distortions .entry)) (now (out .entry)) at (now (out .exit)) r ⌝ }
+    ensures { λ r. ⌜ RightLine (AveLine scans settings law budget (now (rates .entry)) (now (distortions .entry))) (now (out .entry)) at (now (out .exit)) r ⌝ }
 {
     let mut plan = [0u8; 1024];
     let mut scratch = [0u8; 4096];
@@ -40,7 +41,7 @@ fn average_at(
         &mut scratch,
     );
     let planned = scans as usize;
-    ave_line(out, at, answer, &plan[..planned])
+    put_line(out, at, b"ave", average_said(answer), &plan[..planned])
 }
 
 // And the second.
@@ -55,7 +56,7 @@ fn minmax_at(
     at: usize,
 ) -> usize
     requires { ⌜ (scans ≤ 1024) × (at + 4352 ≤ length (now out)) ⌝ }
-    ensures { λ r. ⌜ PutMinmax scans settings law budget (now (rates .entry)) (now (distortions .entry)) (now (out .entry)) at (now (out .exit)) r ⌝ }
+    ensures { λ r. ⌜ RightLine (MinmaxLine scans settings law budget (now (rates .entry)) (now (distortions .entry))) (now (out .entry)) at (now (out .exit)) r ⌝ }
 {
     let mut plan = [0u8; 1024];
     let mut scratch = [0u8; 4096];
@@ -70,14 +71,14 @@ fn minmax_at(
         &mut scratch,
     );
     let planned = scans as usize;
-    minmax_line(out, at, answer, &plan[..planned])
+    put_line(out, at, b"minmax", minmax_said(answer), &plan[..planned])
 }
 
 // Both lines of a table that is planned: the first four numbers, and the cells of each table after them.
 pub fn planned(numbers: &[u32], cells: usize, out: &mut [u8]) -> usize
-    requires { ⌜ (length (now numbers) ≡ 8196) × Fits (now numbers) cells ⌝ }
+    requires { ⌜ (length (now numbers) ≡ 8196) × Planable (now numbers) cells ⌝ }
     requires { ⌜ 8704 ≤ length (now out) ⌝ }
-    ensures { λ r. ⌜ Holds (plan-asked (now (numbers .entry)) cells) r (now (out .exit)) ⌝ }
+    ensures { λ r. ⌜ Holds (plan-requested (now (numbers .entry)) cells) r (now (out .exit)) ⌝ }
 {
     let scans = cell_to_number(numbers[0]);
     let settings = cell_to_number(numbers[1]);
@@ -105,6 +106,6 @@ pub fn refused(out: &mut [u8], r: Refusal) -> usize
     requires { ⌜ 8704 ≤ length (now out) ⌝ }
     ensures { λ k. ⌜ Holds (out-of-range r) k (now (out .exit)) ⌝ }
 {
-    let second = ave_line(out, 0, AverageAnswer::Refused(r), b"");
-    minmax_line(out, second, MinmaxAnswer::Refused(r), b"")
+    let second = put_line(out, 0, b"ave", Said::Refused(r), b"");
+    put_line(out, second, b"minmax", Said::Refused(r), b"")
 }

@@ -1,11 +1,11 @@
 -- `qpl::qpl_average` meets its contract: the call below over the room that is lent, and what it answers told. Assumes nothing.
-use mathlib.Core.Path.{sym, _∙_}
+use mathlib.Core.Path.{sym, ap}
+use native.Mathlib.Omega.{arith}
 use lib.ListN.{length}
 use lib.Seq.{length-take-le}
 use denote.Ref.{now}
-use Rattle.telling.specs.Told.{lent}
-use Rattle.qpl.proofs.CarryLaws.{promise-tellable, average-needs}
-use Rattle.qpl.proofs.LentLaws.{promise-whole}
+use Rattle.promise.specs.Promise.{average-reply}
+use Rattle.qpl.proofs.LentLaws.{planning-tellable, planning-tells}
 use borrow.Author.Needs.{needs}
 use Rattle.qpl.proofs.qpl_average.Statement.{statement}
 use Rattle.qpl.proofs.qpl_average.Tie as tie
@@ -22,13 +22,19 @@ slice-aggregate-average-plan c = sym (length-take-le _ _ (c .before .lent .ensur
 average-plan-requires : tie.Need-average-plan-requires
 average-plan-requires c κs = search needs
 
-tell-average-requires : tie.Need-tell-average-requires
-tell-average-requires c κs =
-    let a = c .before .before .before .before .before .before .before .before .before .before .before .before .before .before .args in
-    let room = c .before .before .before .before .before .before .before .before .lent in
-    let call = c .before .before .before .before .before .average-plan in
-    promise-tellable 48 (length (now (a .answer))) (length (now (a .plan))) tt (call .ensures)
-    (length-take-le (room .result) (now (a .plan)) (room .ensures .1) ∙ room .ensures .0) (average-needs (call .result))
+average-answer-requires : tie.Need-average-answer-requires
+average-answer-requires c κs = search needs
+
+tell-requires : tie.Need-tell-requires
+tell-requires c κs =
+    let said = c .before in
+    let called = said .before .before .before .before .before in
+    let lends = called .before .before .before in
+    let a = lends .before .before .before .before .before .before .args in (
+      said .average-answer .ensures .1,
+      planning-tellable average-reply (called .average-plan .result) 48 (now (a .answer)) (now (a .plan)) (lends .lent .ensures) (called .average-plan .ensures)
+      (said .average-answer .ensures .0) tt (λ t v q. omega (arith, ap length (q .values))),
+    )
 
 same-length : tie.Need-same-length
 same-length c = search needs
@@ -42,17 +48,12 @@ same-length-3 c = search needs
 returns : tie.Need-returns
 returns c =
     let told = c .before .before in
-    let called = told .before .before .before .before .before .before in
+    let said = told .before .before in
+    let called = said .before .before .before .before .before in
     let lends = called .before .before .before in
     let a = lends .before .before .before .before .before .before .args in
-    let room = lends .lent in
-    let n = lent 48 (length (now (a .answer))) (length (now (a .plan))) in
-    let m = length-take-le (room .result) (now (a .plan)) (room .ensures .1) ∙ room .ensures .0 in
-    record {
-      given = called .average-plan .result;
-      kept = promise-whole (room .result) n (now (a .plan)) (called .average-plan .ensures) m;
-      told = told .tell-average .ensures;
-    }
+    planning-tells average-reply (called .average-plan .result) 48 (now (a .answer)) (now (a .plan)) (lends .lent .ensures) (called .average-plan .ensures)
+    (said .average-answer .ensures .0) (told .tell .ensures)
 
 pub qpl-average-spec : {M : Type 1} → statement M
 qpl-average-spec =
@@ -62,7 +63,8 @@ qpl-average-spec =
     slice-relend-prefix-average-plan
     slice-aggregate-average-plan
     average-plan-requires
-    tell-average-requires
+    average-answer-requires
+    tell-requires
     same-length
     same-length-2
     same-length-3

@@ -4,7 +4,7 @@ use native.Mathlib.Omega.{arith}
 use denote.Ref.{now}
 use Rattle.printing.specs.Lines as lines
 use Rattle.workbench.specs.Written.{alone-bad, alone-large}
-use Rattle.workbench.specs.Parts.{Judged}
+use Rattle.workbench.specs.Parts.{VerdictOf}
 use Rattle.workbench.specs.declared.judge.Verdict.the-variants as verdict
 use Rattle.workbench.proofs.LineLaws.{alone-put, answers}
 use borrow.Author.Needs.{needs}
@@ -14,7 +14,7 @@ use Rattle.workbench.proofs.answer.Tie as tie
 -- a text that is to be planned
 ready : (c : tie.After-verdict2) →
     let fed = c .before .before .before .before .before .before in
-    Judged (fed .feed .last .1 .1 .0) (fed .feed .result) (verdict.Ready (c .verdict2 .given .0 .0))
+    VerdictOf (fed .feed .last .1 .1 .0) (fed .feed .result) (verdict.Ready (c .verdict2 .given .0 .0))
 ready c = rw (c .verdict2 .given .1) at (c .before .before .judge .ensures)
 
 slice-aggregate-feed : tie.Need-slice-aggregate-feed

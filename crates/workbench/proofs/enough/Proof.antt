@@ -13,7 +13,7 @@ use Rattle.reading.specs.declared.State.{State}
 use Rattle.workbench.specs.Done.{settles, Decided}
 use Rattle.workbench.specs.Parts.{Heads}
 use Rattle.workbench.specs.declared.judge.Head.{Head}
-use Rattle.workbench.proofs.AskedLaws.{enough-decides}
+use Rattle.workbench.proofs.RequestLaws.{enough-decides}
 use Rattle.workbench.proofs.JudgeLaws.{stops, head-settles}
 use Rattle.workbench.proofs.enough.Statement.{statement}
 use Rattle.workbench.proofs.enough.Tie as tie

@@ -2,7 +2,7 @@
 use Prim.Native.Nat.{ℕ, _<_}
 use native.Mathlib.Nat.{mod-lt}
 use native.Mathlib.Omega.{arith}
-use Rattle.keys.proofs.BesideLaws.{at-zero, room, next}
+use Rattle.keys.proofs.BesideLaws.{at-zero, sizes, next}
 use borrow.Fn.Kinds.{In}
 use borrow.Fn.PlainCycle.{Measures, is, falls, and}
 use Rattle.keys.proofs.weigh.lowest.Reads as lowest
@@ -35,11 +35,11 @@ lowest-lowest-requires t c κs = omega (arith, mod-lt (c .before .args .d) {m = 
 
 lowest-mul-whole :
     (t : ℕ) → lowest-lts.Need-mul-whole (lowest-below t, lowest.Post) (lowest-at t) lowest.Post
-lowest-mul-whole t c = omega (arith, room (c .before .before .before .args .d) (omega arith) (c .before .lowest .ensures))
+lowest-mul-whole t c = omega (arith, sizes (c .before .before .before .args .d) (omega arith) (c .before .lowest .ensures))
 
 lowest-add-whole :
     (t : ℕ) → lowest-lts.Need-add-whole (lowest-below t, lowest.Post) (lowest-at t) lowest.Post
-lowest-add-whole t c = omega (arith, room (c .before .before .before .before .args .d) (omega arith) (c .before .before .lowest .ensures))
+lowest-add-whole t c = omega (arith, sizes (c .before .before .before .before .args .d) (omega arith) (c .before .before .lowest .ensures))
 
 lowest-sub-t8 :
     (t : ℕ) → lowest-lts.Need-sub-t8 (lowest-below t, lowest.Post) (lowest-at t) lowest.Post
@@ -47,15 +47,15 @@ lowest-sub-t8 t c = omega arith
 
 lowest-mul-t9 :
     (t : ℕ) → lowest-lts.Need-mul-t9 (lowest-below t, lowest.Post) (lowest-at t) lowest.Post
-lowest-mul-t9 t c = omega (arith, room (c .before .before .before .before .before .before .args .d) (omega arith) (c .before .before .before .before .lowest .ensures))
+lowest-mul-t9 t c = omega (arith, sizes (c .before .before .before .before .before .before .args .d) (omega arith) (c .before .before .before .before .lowest .ensures))
 
 lowest-add-t10 :
     (t : ℕ) → lowest-lts.Need-add-t10 (lowest-below t, lowest.Post) (lowest-at t) lowest.Post
-lowest-add-t10 t c = omega (arith, room (c .before .before .before .before .before .before .before .args .d) (omega arith) (c .before .before .before .before .before .lowest .ensures))
+lowest-add-t10 t c = omega (arith, sizes (c .before .before .before .before .before .before .before .args .d) (omega arith) (c .before .before .before .before .before .lowest .ensures))
 
 lowest-sub-t11 :
     (t : ℕ) → lowest-lts.Need-sub-t11 (lowest-below t, lowest.Post) (lowest-at t) lowest.Post
-lowest-sub-t11 t c = room (c .before .before .before .before .before .before .before .args .d) (omega arith) (c .before .before .before .before .before .lowest .ensures) .left
+lowest-sub-t11 t c = sizes (c .before .before .before .before .before .before .before .args .d) (omega arith) (c .before .before .before .before .before .lowest .ensures) .left
 
 lowest-returns :
     (t : ℕ) → lowest-lts.Need-returns (lowest-below t, lowest.Post) (lowest-at t) lowest.Post

@@ -3,7 +3,7 @@ use mathlib.Core.Logic.{⊎-elim}
 use Prim.Native.Nat.{_+_, _*_}
 use native.Mathlib.Omega.{arith}
 use Rattle.keys.specs.OneKey.{Weighed}
-use Rattle.keys.proofs.BesideLaws.{near-up, weighed, by-d, by-n}
+use Rattle.keys.proofs.BesideLaws.{near-up, weighed-by, by-d, by-n}
 use borrow.Author.Needs.{needs}
 use Rattle.keys.proofs.weigh.weigh.Statement.{statement}
 use Rattle.keys.proofs.weigh.weigh.Tie as tie
@@ -16,7 +16,7 @@ weighing : (j : lts.Joined1 (lowest-reads.Asked, lowest-reads.Learnt, steps-read
     Weighed (j .before .before .before .args .n) (j .before .before .before .args .d)
     (j .before .before .lowest .result .down + j .if1 .s * j .before .before .lowest .result .d)
     (j .before .before .lowest .result .up + j .if1 .s * j .before .before .lowest .result .n)
-weighing j = weighed (omega arith) (omega arith) (omega arith) (j .before .before .lowest .ensures) (⊎-elim
+weighing j = weighed-by (omega arith) (omega arith) (omega arith) (j .before .before .lowest .ensures) (⊎-elim
     (λ w. by-d (w .0 .taken) (rw (w .2) (w .1 .ensures)))
     (λ w. by-n (w .0 .left) (rw (w .2) (w .1 .ensures)))
     (j .if1 .came))

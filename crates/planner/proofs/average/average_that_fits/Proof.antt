@@ -1,4 +1,6 @@
 -- `planner::average::average_that_fits` meets its contract: the plan at zero, or where the slopes end. Assumes nothing.
+use Rattle.criteria.specs.Choice.{Problem}
+use Rattle.tables.specs.Tables.{table, planning}
 use native.Mathlib.Omega.{arith}
 use mathlib.Core.Path.{refl, _∙_}
 use Rattle.criteria.specs.Found.{at-zero}
@@ -11,6 +13,9 @@ use borrow.Author.Needs.{needs}
 use Rattle.planner.proofs.average.average_that_fits.Statement.{statement}
 use Rattle.planner.proofs.average.average_that_fits.Tie as tie
 
+abbrev problem : tie.Start → Problem
+problem s = planning (table (s .args .scans) (s .args .settings) (s .args .law) (s .args .rates .now) (s .args .distortions .now))
+
 multiplier-pass-requires : tie.Need-multiplier-pass-requires
 multiplier-pass-requires c κs = (c .before .before .before .before .before .pre .0 .0, (omega arith, (omega arith, omega arith)))
 
@@ -18,19 +23,19 @@ total-up-requires : tie.Need-total-up-requires
 total-up-requires c κs =
     let s = c .before .before .before .before .before .before .before .before .before in
     let p = c .before .before .before .multiplier-pass .ensures in
-    (fit-framed (s .pre .0 .0) (p .framed), pass-finds p (s .pre .1 .plan) (s .pre .1 .thriftiest .one) .one)
+    (fit-framed (s .pre .0 .0) (p .framed), pass-finds {P = problem s} p (s .pre .1 .plan) (s .pre .1 .thriftiest .one) .one)
 
 finish-requires : tie.Need-finish-requires
 finish-requires c κs =
     let s = c .before .before .before .before .before .before .before .before .before .before .before .before .before .before in
     let p = c .before .before .before .before .before .before .before .before .multiplier-pass .ensures in
-    ((fit-framed (s .pre .0 .0) (p .framed), s .pre .0 .1), pass-finds p (s .pre .1 .plan) (s .pre .1 .thriftiest .one) .one)
+    ((fit-framed (s .pre .0 .0) (p .framed), s .pre .0 .1), pass-finds {P = problem s} p (s .pre .1 .plan) (s .pre .1 .thriftiest .one) .one)
 
 answer-requires : tie.Need-answer-requires
 answer-requires c κs =
     let s = c .before .before .before .before .before .before .before .before .before .before .before .before .before .before .before .before .before .before .before in
-    let m = pass-finds (c .before .before .before .before .before .before .before .before .before .before .before .before .before .multiplier-pass .ensures) (s .pre .1 .plan) (s .pre .1 .thriftiest .one) in
-    ((omega arith, (omega arith, omega arith)), (finished-small (sums-small (s .args .law) (s .pre .0 .0)) (m .one) (c .before .before .before .before .finish .ensures .totals), omega arith))
+    let m = pass-finds {P = problem s} (c .before .before .before .before .before .before .before .before .before .before .before .before .before .multiplier-pass .ensures) (s .pre .1 .plan) (s .pre .1 .thriftiest .one) in
+    ((omega arith, (omega arith, omega arith)), (finished-small {P = problem s} (sums-small (s .args .law) (s .pre .0 .0)) (m .one) (c .before .before .before .before .finish .ensures .totals), omega arith))
 
 same-length : tie.Need-same-length
 same-length c = search needs
@@ -43,15 +48,15 @@ returns c =
     let s = c .before .before .before .before .before .before .before .before .before .before .before .before .before .before .before .before .before .before .before .before in
     let p = c .before .before .before .before .before .before .before .before .before .before .before .before .before .before .multiplier-pass .ensures in
     let f = c .before .before .before .before .before .finish .ensures in
-    let m = pass-finds p (s .pre .1 .plan) (s .pre .1 .thriftiest .one) in
-    finished-given (p .framed) f (answer-is {n = 0} {d = 1}
-    (average-reduced _ 0 1 _ (omega arith) m (omega (arith, c .before .before .before .before .before .before .before .before .if1 .taken, c .before .before .before .before .before .before .before .before .before .before .total-up .ensures .rate)) (at-zero refl)) (c .answer .ensures) (f .totals))
+    let m = pass-finds {P = problem s} p (s .pre .1 .plan) (s .pre .1 .thriftiest .one) in
+    finished-given {P = problem s} (p .framed) f (answer-is {P = problem s} {n = 0} {d = 1}
+    (average-reduced (problem s) 0 1 _ (omega arith) m (omega (arith, c .before .before .before .before .before .before .before .before .if1 .taken, c .before .before .before .before .before .before .before .before .before .before .total-up .ensures .rate)) (at-zero refl)) (c .answer .ensures) (f .totals))
 
 slopes-requires : tie.Need-slopes-requires
 slopes-requires c κs =
     let s = c .before .before .before .before .before .before .before .before .before .before .before .before .before in
     let p = c .before .before .before .before .before .before .before .multiplier-pass .ensures in
-    (fit-framed (s .pre .0 .0) (p .framed), bracket-first (s .pre .1) (pass-finds p (s .pre .1 .plan) (s .pre .1 .thriftiest .one)) (c .before .before .before .total-up .ensures) (c .before .if1 .left))
+    (fit-framed (s .pre .0 .0) (p .framed), bracket-first (s .pre .1) (pass-finds {P = problem s} p (s .pre .1 .plan) (s .pre .1 .thriftiest .one)) (c .before .before .before .total-up .ensures) (c .before .if1 .left))
 
 finish-requires-2 : tie.Need-finish-requires-2
 finish-requires-2 c κs =
@@ -66,8 +71,8 @@ answer-requires-2 c κs =
     let small = sums-small (s .args .law) (s .pre .0 .0) in (
       (e .small-n, (e .ended .whole, e .small-d)),
       (
-        finished-small small (e .ended .plan .one) (c .before .before .before .before .finish2 .ensures .totals),
-        budget-fits (λ t a. small t a .1) (e .small-n) (e .ended .certificate),
+        finished-small {P = problem s} small (e .ended .plan .one) (c .before .before .before .before .finish2 .ensures .totals),
+        budget-fits {P = problem s} (λ t a. small t a .1) (e .small-n) (e .ended .certificate),
       ),
     )
 
@@ -79,10 +84,11 @@ same-length-4 c = c .before .before .before .before .before .finish2 .kept .1 .1
 
 returns-2 : tie.Need-returns-2
 returns-2 c =
+    let s = c .before .before .before .before .before .before .before .before .before .before .before .before .before .before .before .before .before .before .before .before .before .before .before .before in
     let e = c .before .before .before .before .before .before .before .before .before .before .slopes .ensures in
     let f = c .before .before .before .before .before .finish2 .ensures in
-    finished-given (framed-on (c .before .before .before .before .before .before .before .before .before .before .before .before .before .before .before .before .before .before .multiplier-pass .ensures .framed) (e .framed)) f
-    (answer-is (average-reduced _ _ _ _ (e .ended .whole) (e .ended .plan) (e .ended .fits) (e .ended .certificate)) (c .answer2 .ensures) (f .totals))
+    finished-given {P = problem s} (framed-on (c .before .before .before .before .before .before .before .before .before .before .before .before .before .before .before .before .before .before .multiplier-pass .ensures .framed) (e .framed)) f
+    (answer-is {P = problem s} (average-reduced (problem s) _ _ _ (e .ended .whole) (e .ended .plan) (e .ended .fits) (e .ended .certificate)) (c .answer2 .ensures) (f .totals))
 
 pub average-that-fits-spec : {M : Type 1} → statement M
 average-that-fits-spec =

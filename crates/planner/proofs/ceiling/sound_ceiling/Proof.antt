@@ -1,4 +1,6 @@
 -- `planner::ceiling::sound_ceiling` meets its contract: the least-rate plan under the ceiling, or a second pass that tells 8 from 9. Assumes nothing.
+use Rattle.criteria.specs.Choice.{Problem}
+use Rattle.tables.specs.Tables.{table, planning}
 use native.Mathlib.Omega.{arith}
 use Rattle.checks.proofs.PlanningLaws.{sound-fit, sound-plan}
 use Rattle.seek.proofs.SeekLaws.{fit-framed, framed-on, open-under, nothing-under}
@@ -6,6 +8,9 @@ use Rattle.planner.proofs.PromiseLaws.{values-are, says-none-allowed, s
 use borrow.Author.Needs.{needs}
 use Rattle.planner.proofs.ceiling.sound_ceiling.Statement.{statement}
 use Rattle.planner.proofs.ceiling.sound_ceiling.Tie as tie
+
+abbrev problem : tie.Start → Problem
+problem s = planning (table (s .args .scans) (s .args .settings) (s .args .law) (s .args .rates .now) (s .args .distortions .now))
 
 thrifty-pass-requires : tie.Need-thrifty-pass-requires
 thrifty-pass-requires c κs = sound-fit (c .before .before .before .before .before .pre)
@@ -26,7 +31,7 @@ returns : tie.Need-returns
 returns c =
     let p = c .before .before .before .before .before .before .before .before .before .before .thrifty-pass .ensures in
     let f = c .before .before .before .before .finish .ensures in
-    says-planned (c .before .before .before .before .before .before .before .before .before .before .before .before .before .before .before .before .pre) (p .framed) f (p .some (c .before .before .before .before .before .before .before .if1 .taken), values-are (f .totals))
+    says-planned (c .before .before .before .before .before .before .before .before .before .before .before .before .before .before .before .before .pre) (p .framed) f (p .some (c .before .before .before .before .before .before .before .if1 .taken), values-are {P = problem (c .before .before .before .before .before .before .before .before .before .before .before .before .before .before .before .before)} (f .totals))
 
 thrifty-pass-requires-2 : tie.Need-thrifty-pass-requires-2
 thrifty-pass-requires-2 c κs = fit-framed (sound-fit (c .before .before .before .before .before .before .before .before .before .before .pre)) (c .before .before .before .before .thrifty-pass .ensures .framed)
@@ -45,7 +50,7 @@ returns-2 c =
     let p = c .before .before .before .before .before .before .before .before .before .before .before .before .thrifty-pass .ensures in
     let q = c .before .before .before .before .before .before .before .thrifty-pass2 .ensures in
     says-none-within (c .before .before .before .before .before .before .before .before .before .before .before .before .before .before .before .before .before .before .pre) (framed-on (p .framed) (q .framed)) (c .before .before .before .wipe .ensures)
-    (nothing-under (q .some (c .if2 .taken)) (p .none (c .before .before .before .before .before .before .before .before .before .if1 .left)))
+    (nothing-under {P = problem (c .before .before .before .before .before .before .before .before .before .before .before .before .before .before .before .before .before .before)} (q .some (c .if2 .taken)) (p .none (c .before .before .before .before .before .before .before .before .before .if1 .left)))
 
 same-length-4 : tie.Need-same-length-4
 same-length-4 c = search needs

@@ -1,4 +1,6 @@
 -- `planner::minmax::minmax_that_fits` meets its contract: the least ceiling, and the least-rate plan under it. Assumes nothing.
+use Rattle.criteria.specs.Choice.{Problem}
+use Rattle.tables.specs.Tables.{table, planning}
 use native.Mathlib.Omega.{arith}
 use Rattle.seek.proofs.SeekLaws.{fit-framed, framed-on}
 use Rattle.planner.proofs.PromiseLaws.{values-are, finished-given}
@@ -6,6 +8,9 @@ use Rattle.planner.proofs.MinmaxLaws.{pass-under, peak-bound, thrifty-f
 use borrow.Author.Needs.{needs}
 use Rattle.planner.proofs.minmax.minmax_that_fits.Statement.{statement}
 use Rattle.planner.proofs.minmax.minmax_that_fits.Tie as tie
+
+abbrev problem : tie.Start → Problem
+problem s = planning (table (s .args .scans) (s .args .settings) (s .args .law) (s .args .rates .now) (s .args .distortions .now))
 
 number-to-cell-requires : tie.Need-number-to-cell-requires
 number-to-cell-requires c κs = omega (arith, peak-bound (c .before .before .before .before .args .law) (c .before .before .before .before .pre .0 .0) (c .before .before .before .before .pre .1))
@@ -21,7 +26,7 @@ finish-requires c κs =
     let s = c .before .before .before .before .before .before .before .before .before .before .before .before .before .before .before in
     let l = c .before .before .before .before .before .before .before .before .least-ceiling .ensures in
     let p = c .before .before .before .before .thrifty-pass .ensures in
-    ((fit-framed (fit-framed (s .pre .0 .0) (l .framed)) (p .framed), s .pre .0 .1), pass-under l p .one .0)
+    ((fit-framed (fit-framed (s .pre .0 .0) (l .framed)) (p .framed), s .pre .0 .1), pass-under {P = problem s} l p .one .0)
 
 cell-to-number-requires : tie.Need-cell-to-number-requires
 cell-to-number-requires c κs = search needs
@@ -34,10 +39,11 @@ same-length-2 c = search needs
 
 returns : tie.Need-returns
 returns c =
+    let s = c .before .before .before .before .before .before .before .before .before .before .before .before .before .before .before .before .before .before .before .before .before in
     let l = c .before .before .before .before .before .before .before .before .before .before .before .before .before .before .least-ceiling .ensures in
     let p = c .before .before .before .before .before .before .before .before .before .before .thrifty-pass .ensures in
     let f = c .before .before .before .before .before .finish .ensures in
-    finished-given (framed-on (l .framed) (p .framed)) f (minmax-is l (pass-under l p) (c .cell-to-number .ensures .0) (values-are (f .totals)))
+    finished-given {P = problem s} (framed-on (l .framed) (p .framed)) f (minmax-is {P = problem s} l (pass-under {P = problem s} l p) (c .cell-to-number .ensures .0) (values-are {P = problem s} (f .totals)))
 
 pub minmax-that-fits-spec : {M : Type 1} → statement M
 minmax-that-fits-spec =

@@ -1,10 +1,15 @@
 -- `planner::minmax::sound_minmax` meets its contract: the start, and what follows where the least-rate plan fits. Assumes nothing.
+use Rattle.criteria.specs.Choice.{Problem}
+use Rattle.tables.specs.Tables.{table, planning}
 use Rattle.checks.proofs.PlanningLaws.{sound-fit, sound-plan}
 use Rattle.seek.proofs.SeekLaws.{fit-framed}
 use Rattle.planner.proofs.PromiseLaws.{started-plan, started-refused, started-given}
 use borrow.Author.Needs.{needs}
 use Rattle.planner.proofs.minmax.sound_minmax.Statement.{statement}
 use Rattle.planner.proofs.minmax.sound_minmax.Tie as tie
+
+abbrev problem : tie.Start → Problem
+problem s = planning (table (s .args .scans) (s .args .settings) (s .args .law) (s .args .rates .now) (s .args .distortions .now))
 
 start-requires : tie.Need-start-requires
 start-requires c κs = sound-fit (c .before .before .before .before .before .pre)
@@ -15,7 +20,7 @@ enum-known-started c = search needs
 minmax-that-fits-requires : tie.Need-minmax-that-fits-requires
 minmax-that-fits-requires c κs =
     let s = c .before .before .before .before .before .before .before .before .before .before .before .before .before in
-    let h = started-plan (c .before .before .before .before .before .before .before .start .ensures) (c .before .before .before .started .given .1) in
+    let h = started-plan {P = problem s} (c .before .before .before .before .before .before .before .start .ensures) (c .before .before .before .started .given .1) in
     ((fit-framed (sound-fit (s .pre)) (h .1), sound-plan (s .pre)), h .0)
 
 enum-known-started-2 : tie.Need-enum-known-started-2
@@ -29,7 +34,7 @@ same-length-2 c = search needs
 
 returns : tie.Need-returns
 returns c =
-    started-given (c .before .before .before .before .before .before .before .before .before .before .before .before .before .before .before .before .before .before .pre) (started-plan (c .before .before .before .before .before .before .before .before .before .before .before .before .start .ensures) (c .before .before .before .before .before .before .before .before .started .given .1) .1) (c .before .before .before .before .minmax-that-fits .ensures)
+    started-given (c .before .before .before .before .before .before .before .before .before .before .before .before .before .before .before .before .before .before .pre) (started-plan {P = problem (c .before .before .before .before .before .before .before .before .before .before .before .before .before .before .before .before .before .before)} (c .before .before .before .before .before .before .before .before .before .before .before .before .start .ensures) (c .before .before .before .before .before .before .before .before .started .given .1) .1) (c .before .before .before .before .minmax-that-fits .ensures)
 
 same-length-3 : tie.Need-same-length-3
 same-length-3 c = search needs

@@ -1,4 +1,6 @@
 -- `planner::multiplier::sound_multiplier` meets its contract. Assumes nothing.
+use Rattle.criteria.specs.Choice.{Problem}
+use Rattle.tables.specs.Tables.{table, planning}
 use native.Mathlib.Omega.{arith}
 use Rattle.checks.proofs.PlanningLaws.{sound-fit, sound-plan, sound-further, multiplier-in}
 use Rattle.seek.proofs.SeekLaws.{wipe-fits, fit-framed}
@@ -6,6 +8,9 @@ use Rattle.planner.proofs.PromiseLaws.{values-are, says-none-allowed, s
 use borrow.Author.Needs.{needs}
 use Rattle.planner.proofs.multiplier.sound_multiplier.Statement.{statement}
 use Rattle.planner.proofs.multiplier.sound_multiplier.Tie as tie
+
+abbrev problem : tie.Start → Problem
+problem s = planning (table (s .args .scans) (s .args .settings) (s .args .law) (s .args .rates .now) (s .args .distortions .now))
 
 multiplier-pass-requires : tie.Need-multiplier-pass-requires
 multiplier-pass-requires c κs =
@@ -28,7 +33,7 @@ returns : tie.Need-returns
 returns c =
     let p = c .before .before .before .before .before .before .before .before .before .before .multiplier-pass .ensures in
     let f = c .before .before .before .before .finish .ensures in
-    says-planned (c .before .before .before .before .before .before .before .before .before .before .before .before .before .before .before .before .pre) (p .framed) f (p .some (c .before .before .before .before .before .before .before .if1 .taken), values-are (f .totals))
+    says-planned (c .before .before .before .before .before .before .before .before .before .before .before .before .before .before .before .before .pre) (p .framed) f (p .some (c .before .before .before .before .before .before .before .if1 .taken), values-are {P = problem (c .before .before .before .before .before .before .before .before .before .before .before .before .before .before .before .before)} (f .totals))
 
 wipe-requires : tie.Need-wipe-requires
 wipe-requires c κs = wipe-fits (fit-framed (sound-fit (c .before .before .before .before .before .before .before .before .before .before .pre)) (c .before .before .before .before .multiplier-pass .ensures .framed))

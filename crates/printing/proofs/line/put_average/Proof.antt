@@ -1,10 +1,6 @@
 -- `printing::line::put_average` meets its contract: part after part. Assumes nothing.
 use native.Mathlib.Omega.{arith}
-use mathlib.Core.Path.{sym}
-use mathlib.Core.List.{append-assoc}
-use Rattle.printing.specs.Lines.{named, rate, dist}
-use Rattle.printing.specs.Parts.{ratio}
-use Rattle.printing.proofs.PutLaws.{next, same-text}
+use Rattle.printing.proofs.PutLaws.{next}
 use borrow.Author.Needs.{needs}
 use Rattle.printing.proofs.line.put_average.Statement.{statement}
 use Rattle.printing.proofs.line.put_average.Tie as tie
@@ -40,9 +36,7 @@ returns c =
     let peak = floor .before .before .before .before .before in
     let sums = peak .before .before .before .before .before in
     let over = sums .before .before .before .before in
-    let p = over .before .before .before .before .before .before .args .plan in
-    let regroup = sym (append-assoc (ratio (p .n) (p .d)) (named rate (p .totals .rate .0)) (named dist (p .totals .distortion .0))) in
-    let with-sums = same-text regroup (next (over .put-ratio .ensures .0) (sums .put-sums .ensures .0)) in
+    let with-sums = next (over .put-ratio .ensures .0) (sums .put-sums .ensures .0) in
     let with-floor = next (next with-sums (peak .put-named .ensures .0)) (floor .put-named2 .ensures .0) in
     (next with-floor (plan .put-planned .ensures .0), omega arith)
 

@@ -1,10 +1,7 @@
 -- `printing::line::put_minmax` meets its contract: part after part. Assumes nothing.
 use native.Mathlib.Omega.{arith}
-use mathlib.Core.Path.{sym}
-use mathlib.Core.List.{append-assoc}
-use Rattle.printing.specs.Lines.{decimal, spaced, named, rate, dist}
 use Rattle.printing.proofs.DecimalLaws.{length-decimal}
-use Rattle.printing.proofs.PutLaws.{next, same-text}
+use Rattle.printing.proofs.PutLaws.{next}
 use borrow.Author.Needs.{needs}
 use Rattle.printing.proofs.line.put_minmax.Statement.{statement}
 use Rattle.printing.proofs.line.put_minmax.Tie as tie
@@ -29,8 +26,7 @@ returns c =
     let sums = plan .before .before .before .before in
     let first = sums .before .before .before .before in
     let p = first .before .before .before .before .before .args .plan in
-    let regroup = sym (append-assoc (spaced (decimal (p .ceiling))) (named rate (p .totals .rate .0)) (named dist (p .totals .distortion .0))) in
-    let with-sums = same-text regroup (next (first .put-spaced .ensures) (sums .put-sums .ensures .0)) in
+    let with-sums = next (first .put-spaced .ensures) (sums .put-sums .ensures .0) in
     (next with-sums (plan .put-planned .ensures .0), omega (arith, length-decimal (p .ceiling)))
 
 pub put-minmax-spec : {M : Type 1} → statement M

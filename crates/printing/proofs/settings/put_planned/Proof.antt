@@ -6,23 +6,18 @@ use borrow.Author.Needs.{needs}
 use Rattle.printing.proofs.settings.put_planned.Statement.{statement}
 use Rattle.printing.proofs.settings.put_planned.Tie as tie
 
--- src/settings.rt:37:32
 slice-aggregate-put : tie.Need-slice-aggregate-put
 slice-aggregate-put c = search needs
 
--- src/settings.rt:37:9
 put-requires : tie.Need-put-requires
 put-requires c κs = search needs
 
--- src/settings.rt:38:5
 put-settings-requires : tie.Need-put-settings-requires
 put-settings-requires c κs = search needs
 
--- src/settings.rt:32:1
 same-length : tie.Need-same-length
 same-length c = search needs
 
--- src/settings.rt:32:1
 returns : tie.Need-returns
 returns c =
     let numbers = c .before .before .put-settings .ensures in

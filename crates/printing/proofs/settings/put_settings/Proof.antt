@@ -8,7 +8,7 @@ use lib.ListN.{length, take}
 use lib.Seq.{take-length}
 use denote.Ref.{now}
 use Rattle.printing.specs.Lines.{decimal, spaced, numbered}
-use Rattle.printing.specs.Parts.{Put}
+use Rattle.printing.specs.Put.{Put}
 use Rattle.printing.proofs.DecimalLaws.{length-byte}
 use Rattle.printing.proofs.PutLaws.{next, same-text}
 use Rattle.printing.proofs.TextLaws.{numbered-more}

@@ -1,6 +1,7 @@
 -- `search::slopes::slopes` meets its contract: the bracket narrows until a plan ties. The measure is its width in rate. Assumes nothing.
-use mathlib.Core.Path.{refl, sym, _∙_}
+use mathlib.Core.Path.{refl}
 use Prim.Native.Nat.{_-_, _<_}
+use Rattle.criteria.specs.Choice.{Problem}
 use Rattle.tables.specs.Tables.{scratch-need, table, planning}
 use Rattle.seek.specs.Sought.{Framed}
 use Rattle.search.specs.Search.{Bracketed}
@@ -15,15 +16,18 @@ Inv-loop scans settings law budget rates distortions scratch₀ at₀ scratch at
 abbrev μ-loop : tie.MeasureT-loop
 μ-loop scans settings law budget rates distortions scratch₀ at₀ scratch at = at .hi .rate .0 - at .lo .rate .0
 
+abbrev problem : tie.Start Inv-loop μ-loop → Problem
+problem s = planning (table (s .args .scans) (s .args .settings) (s .args .law) (s .args .rates .now) (s .args .distortions .now))
+
 -- the next bracket, and that it is narrower
 next : (c : tie.After-narrowed Inv-loop μ-loop) → Bracketed
-    (planning (table (c .before .before .before .before .before .before .before .before .before .before .before .before .before .before .args .scans) (c .before .before .before .before .before .before .before .before .before .before .before .before .before .before .args .settings) (c .before .before .before .before .before .before .before .before .before .before .before .before .before .before .args .law) (c .before .before .before .before .before .before .before .before .before .before .before .before .before .before .args .rates .now) (c .before .before .before .before .before .before .before .before .before .before .before .before .before .before .args .distortions .now)))
+    (problem (c .before .before .before .before .before .before .before .before .before .before .before .before .before .before))
     (c .before .before .before .before .before .before .before .before .before .before .before .before .before .before .args .budget) (c .narrowed .result .lo) (c .narrowed .result .hi) ×
     (c .narrowed .result .hi .rate .0 - c .narrowed .result .lo .rate .0 < c .before .before .before .before .before .before .before .before .before .before .loop .at .hi .rate .0 - c .before .before .before .before .before .before .before .before .before .before .loop .at .lo .rate .0)
 next c =
     let i = c .before .before .before .before .before .before .before .before .before .before .loop .inv in
-    narrowed-more (i .0) (c .before .before .before .before .before .before .before .before .before .slope-of .ensures) (pass-finds (c .before .before .before .before .before .before .before .multiplier-pass .ensures) (i .0 .lo-plan) (lo-allowed (i .0))) (c .before .before .before .total-up .ensures)
-    (sym (c .before .before .ties .ensures) ∙ c .before .if1 .left) refl refl (c .narrowed .ensures)
+    narrowed-more (i .0) (c .before .before .before .before .before .before .before .before .before .slope-of .ensures) (pass-finds {P = problem (c .before .before .before .before .before .before .before .before .before .before .before .before .before .before)} (c .before .before .before .before .before .before .before .multiplier-pass .ensures) (i .0 .lo-plan) (lo-allowed (i .0))) (c .before .before .before .total-up .ensures)
+    (c .before .before .ties .ensures) (c .before .if1 .left) refl refl (c .narrowed .ensures)
 
 loop-holds : tie.Need-loop-holds Inv-loop μ-loop
 loop-holds c = (c .before .before .before .pre .1, framed-none _)
@@ -41,7 +45,7 @@ total-up-requires : tie.Need-total-up-requires Inv-loop μ-loop
 total-up-requires c κs =
     let i = c .before .before .before .before .before .before .loop .inv in
     let p = c .before .before .before .multiplier-pass .ensures in
-    (fit-framed (fit-framed (c .before .before .before .before .before .before .before .before .before .before .pre .0) (i .1)) (p .framed), pass-finds p (i .0 .lo-plan) (lo-allowed (i .0)) .one)
+    (fit-framed (fit-framed (c .before .before .before .before .before .before .before .before .before .before .pre .0) (i .1)) (p .framed), pass-finds {P = problem (c .before .before .before .before .before .before .before .before .before .before)} p (i .0 .lo-plan) (lo-allowed (i .0)) .one)
 
 ties-requires : tie.Need-ties-requires Inv-loop μ-loop
 ties-requires c κs =
@@ -49,8 +53,8 @@ ties-requires c κs =
     let i = c .before .before .before .before .before .before .before .loop .inv in
     let small = sums-small (s .args .law) (s .pre .0) in
     let l = slope-small (i .0) small (c .before .before .before .before .before .before .slope-of .ensures) in (
-      totals-cost-small small (c .total-up .ensures) (pass-finds (c .before .before .before .before .multiplier-pass .ensures) (i .0 .lo-plan) (lo-allowed (i .0)) .one) l,
-      totals-cost-small small (i .0 .lo-totals) (lo-allowed (i .0)) l,
+      totals-cost-small {P = problem s} small (c .total-up .ensures) (pass-finds {P = problem s} (c .before .before .before .before .multiplier-pass .ensures) (i .0 .lo-plan) (lo-allowed (i .0)) .one) l,
+      totals-cost-small {P = problem s} small (i .0 .lo-totals) (lo-allowed (i .0)) l,
     )
 
 same-length : tie.Need-same-length Inv-loop μ-loop
@@ -63,7 +67,7 @@ returns c =
     let p = c .before .before .before .before .before .before .multiplier-pass .ensures in
     let l = slope-small (i .0) (sums-small (s .args .law) (s .pre .0)) (c .before .before .before .before .before .before .before .before .slope-of .ensures) in
     record {
-      ended = slope-ends (i .0) (c .before .before .before .before .before .before .before .before .slope-of .ensures) (pass-finds p (i .0 .lo-plan) (lo-allowed (i .0))) (c .before .before .total-up .ensures) (sym (c .before .ties .ensures) ∙ c .if1 .taken);
+      ended = slope-ends (i .0) (c .before .before .before .before .before .before .before .before .slope-of .ensures) (pass-finds {P = problem s} p (i .0 .lo-plan) (lo-allowed (i .0))) (c .before .before .total-up .ensures) (c .before .ties .ensures) (c .if1 .taken);
       small-n = l .0;
       small-d = l .1 .1;
       framed = framed-on (i .1) (p .framed);

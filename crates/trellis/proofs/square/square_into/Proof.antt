@@ -6,7 +6,7 @@ use mathlib.Core.List.{[]}
 use Prim.Native.Nat.{ℕ, _+_, _-_, _*_, _≤_, _<_}
 use lib.ListN.{getD}
 use Rattle.trellis.specs.Square.{Sixteen}
-use Rattle.laws.proofs.Lists.{part}
+use Rattle.laws.proofs.Lists.{part-inside}
 use Rattle.trellis.proofs.SquareLaws.{sixteen-more, rows-more}
 use Rattle.trellis.proofs.square.square_into.Statement.{statement}
 use Rattle.trellis.proofs.square.square_into.Tie as tie
@@ -30,10 +30,10 @@ row-into-requires : tie.Need-row-into-requires Inv-loop μ-loop
 row-into-requires c κs =
     let s = c .before .before .before .before in
     let i = c .before .before .loop .inv in
-    (s .pre .0, (omega (arith, part (s .args .k) (c .before .loop-test .taken)), i .1 .1 .0 .1 (c .before .before .loop .p) (omega arith)))
+    (s .pre .0, (omega (arith, part-inside (s .args .k) (c .before .loop-test .taken)), i .1 .1 .0 .1 (c .before .before .loop .p) (omega arith)))
 
 add-from : tie.Need-add-from Inv-loop μ-loop
-add-from c = omega (arith, part (c .before .before .before .before .before .args .k) (c .before .before .loop-test .taken))
+add-from c = omega (arith, part-inside (c .before .before .before .before .before .args .k) (c .before .before .loop-test .taken))
 
 add-p : tie.Need-add-p Inv-loop μ-loop
 add-p c = search needs

@@ -4,7 +4,7 @@ use native.Mathlib.Omega.{arith}
 use denote.Ref.{now}
 use borrow.Author.Needs.{needs}
 use Rattle.checks.proofs.RangeLaws.{in-range}
-use Rattle.workbench.proofs.LineLaws.{read-asked, planned-put}
+use Rattle.workbench.proofs.LineLaws.{read-requested, planned-put}
 use Rattle.workbench.proofs.lines.planned.Statement.{statement}
 use Rattle.workbench.proofs.lines.planned.Tie as tie
 
@@ -84,7 +84,7 @@ returns c =
     let read = second .before .before in
     let start = read .before .before .before .before in
     planned-put
-    (read-asked (now (start .args .numbers)) (start .args .cells) (read .cell-to-number .ensures .0) (second .cell-to-number2 .ensures .0) (third .cell-to-number3 .ensures .0)
+    (read-requested (now (start .args .numbers)) (start .args .cells) (read .cell-to-number .ensures .0) (second .cell-to-number2 .ensures .0) (third .cell-to-number3 .ensures .0)
     (fourth .cell-to-number4 .ensures .0))
     (first .average-at .ensures) (c .before .before .minmax-at .ensures) (start .pre .1)
 

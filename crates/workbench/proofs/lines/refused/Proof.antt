@@ -1,38 +1,43 @@
 -- `workbench::lines::refused` meets its contract: the refusal on both lines. Assumes nothing.
 use native.Mathlib.Omega.{arith}
 use borrow.Author.Needs.{needs}
-use Rattle.workbench.proofs.LineLaws.{line-put, refused-put}
+use Rattle.workbench.proofs.LineLaws.{refused-put}
 use Rattle.workbench.proofs.lines.refused.Statement.{statement}
 use Rattle.workbench.proofs.lines.refused.Tie as tie
 
-slice-aggregate-ave-line : tie.Need-slice-aggregate-ave-line
-slice-aggregate-ave-line c = search needs
+slice-aggregate-put-line : tie.Need-slice-aggregate-put-line
+slice-aggregate-put-line c = search needs
 
-ave-line-requires : tie.Need-ave-line-requires
-ave-line-requires c κs = search needs
+slice-aggregate-put-line-2 : tie.Need-slice-aggregate-put-line-2
+slice-aggregate-put-line-2 c = search needs
 
-slice-aggregate-minmax-line : tie.Need-slice-aggregate-minmax-line
-slice-aggregate-minmax-line c = search needs
+put-line-requires : tie.Need-put-line-requires
+put-line-requires c κs = search needs
 
-minmax-line-requires : tie.Need-minmax-line-requires
-minmax-line-requires c κs = search needs
+slice-aggregate-put-line-3 : tie.Need-slice-aggregate-put-line-3
+slice-aggregate-put-line-3 c = search needs
+
+slice-aggregate-put-line-4 : tie.Need-slice-aggregate-put-line-4
+slice-aggregate-put-line-4 c = search needs
+
+put-line-requires-2 : tie.Need-put-line-requires-2
+put-line-requires-2 c κs = search needs
 
 same-length : tie.Need-same-length
 same-length c = search needs
 
 returns : tie.Need-returns
-returns c =
-    let second = c .before .before in
-    let first = second .before .before .before .before .before in
-    refused-put (line-put _ (first .ave-line .ensures)) (line-put _ (second .minmax-line .ensures)) (omega arith)
+returns c = refused-put (c .before .before .before .before .before .before .before .before .put-line .ensures .0) (c .before .before .put-line2 .ensures .0) (omega arith)
 
 pub refused-spec : {M : Type 1} → statement M
 refused-spec =
     tie.close
     (tie.spec
-    slice-aggregate-ave-line
-    ave-line-requires
-    slice-aggregate-minmax-line
-    minmax-line-requires
+    slice-aggregate-put-line
+    slice-aggregate-put-line-2
+    put-line-requires
+    slice-aggregate-put-line-3
+    slice-aggregate-put-line-4
+    put-line-requires-2
     same-length
     returns)

@@ -20,7 +20,7 @@ use Rattle.reading.specs.Text.{Open, between, digits, other, words, words-from,
 use Rattle.reading.specs.Fed.{Fed, so-far, stopped, as-words, taken-of}
 use Rattle.reading.specs.declared.State.{State}
 use Rattle.reading.proofs.Text.{ends-as-separator}
-use Rattle.workbench.specs.Asked.{Asked, bad-input, too-large, to-plan, asked, first, add, most-cells, range-refusal, with-cells, with-rest, with-four, in-range}
+use Rattle.workbench.specs.Request.{Request, bad-input, too-large, to-plan, request, first, add, most-cells, range-refusal, with-cells, with-rest, with-four, in-range}
 use Rattle.workbench.specs.Done.{settles, Decided}
 
 -- none of the words from here on can be taken for a number
@@ -42,23 +42,23 @@ first-barred (suc k) [] ws h b = b k
 first-barred (suc k) (x ∷ l) ws h b = ap (λ (o : Option (List ℕ)). add x o) (first-barred k l ws (omega arith) b)
 
 -- what the first four numbers settle, where a is asked if they are in range and the table is not too large
-abbrev pub settled : List ℕ → Asked → Asked
+abbrev pub settled : List ℕ → Request → Request
 settled n a =
     in-range (range-refusal (getD n 0 0) (getD n 1 0) (getD n 2 0)) (cond (ltb most-cells (cells (getD n 0 0)
     (getD n 1 0))) too-large a)
 
-abbrev pub rest-asked : List ℕ → List (Option ℕ) → Asked
-rest-asked n ws = with-rest (getD n 0 0) (getD n 1 0) (getD n 2 0) (getD n 3 0) ws
+abbrev pub rest-requested : List ℕ → List (Option ℕ) → Request
+rest-requested n ws = with-rest (getD n 0 0) (getD n 1 0) (getD n 2 0) (getD n 3 0) ws
 
-abbrev pub asked-of : List (Option ℕ) → Asked
-asked-of ws = with-four (first 4 ws) (drop 4 ws)
+abbrev pub request-of : List (Option ℕ) → Request
+request-of ws = with-four (first 4 ws) (drop 4 ws)
 
-pub by-words : (text : List ℕ) {ws : List (Option ℕ)} → words text ≡ ws → asked text ≡ asked-of ws
-unfolding asked
-by-words text e = ap (λ (ws : List (Option ℕ)). asked-of ws) e
+pub by-words : (text : List ℕ) {ws : List (Option ℕ)} → words text ≡ ws → request text ≡ request-of ws
+unfolding request
+by-words text e = ap (λ (ws : List (Option ℕ)). request-of ws) e
 
 pub four-given : (n : List ℕ) (t : ℕ) (ws : List (Option ℕ)) → 4 ≤ t → t ≤ length n →
-    asked-of (as-words (take t n) ++ ws) ≡ settled n (rest-asked n (as-words (drop 4 (take t n)) ++ ws))
+    request-of (as-words (take t n) ++ ws) ≡ settled n (rest-requested n (as-words (drop 4 (take t n)) ++ ws))
 four-given n zero ws h g = absurd (omega arith)
 four-given n (suc zero) ws h g = absurd (omega arith)
 four-given n (suc (suc zero)) ws h g = absurd (omega arith)
@@ -69,15 +69,15 @@ four-given (a ∷ b ∷ []) (suc (suc (suc (suc t)))) ws h g = absurd (omega ari
 four-given (a ∷ b ∷ c ∷ []) (suc (suc (suc (suc t)))) ws h g = absurd (omega arith)
 four-given (a ∷ b ∷ c ∷ d ∷ n) (suc (suc (suc (suc t)))) ws h g = refl
 
-pub too-few : (n : List ℕ) (t : ℕ) (ws : List (Option ℕ)) → t < 4 → Barred ws → asked-of (as-words (take t n) ++ ws) ≡ bad-input
+pub too-few : (n : List ℕ) (t : ℕ) (ws : List (Option ℕ)) → t < 4 → Barred ws → request-of (as-words (take t n) ++ ws) ≡ bad-input
 too-few n t ws h b =
     let l = take t n in
     ap (λ (o : Option (List ℕ)). with-four o (drop 4 (as-words l ++ ws)))
     (first-barred 4 l ws (let k : length l ≡ min t (length n) = length-take t n in omega arith) b)
 
 -- what is asked beyond the first four matters only where the table is not too large
-pub settled-same : (n : List ℕ) (a b : Asked) → (cells (getD n 0 0) (getD n 1 0) ≤ most-cells → a ≡ b) → settled n a ≡ settled n b
-settled-same n a b f = ap (λ (x : Asked). in-range (range-refusal (getD n 0 0) (getD n 1 0) (getD n 2 0)) x) (by-size _ (λ e. f
+pub settled-same : (n : List ℕ) (a b : Request) → (cells (getD n 0 0) (getD n 1 0) ≤ most-cells → a ≡ b) → settled n a ≡ settled n b
+settled-same n a b f = ap (λ (x : Request). in-range (range-refusal (getD n 0 0) (getD n 1 0) (getD n 2 0)) x) (by-size _ (λ e. f
     (ltb-false _ _ e)))
   where
     by-size : (large : Bool) → (large ≡ false → a ≡ b) → cond large too-large a ≡ cond large too-large b
@@ -85,7 +85,7 @@ settled-same n a b f = ap (λ (x : Asked). in-range (range-refusal (getD n 0 0) 
     by-size false g = g refl
 
 -- where they settle what is asked, nothing beyond them matters
-pub settled-whatever : (n : List ℕ) (a b : Asked) → settles n ≡ true → settled n a ≡ settled n b
+pub settled-whatever : (n : List ℕ) (a b : Request) → settles n ≡ true → settled n a ≡ settled n b
 settled-whatever n a b e = by-tests (scans-out (getD n 0 0)) (settings-out (getD n 1 0)) (law-out (getD n 2 0)) _ e
   where
     by-tests : (p q r l : Bool) → (p || q || r || l) ≡ true →
@@ -98,13 +98,13 @@ settled-whatever n a b e = by-tests (scans-out (getD n 0 0)) (settings-out (getD
     by-tests false false false false e = never (cc)
 
 -- they are bad input if they are not so many as the cells, or if not all of them are numbers
-bad-unless : (b : Bool) (a : Asked) → (b ≡ true → a ≡ bad-input) → cond b a bad-input ≡ bad-input
+bad-unless : (b : Bool) (a : Request) → (b ≡ true → a ≡ bad-input) → cond b a bad-input ≡ bad-input
 bad-unless true a f = f refl
 bad-unless false a f = refl
 
 -- a word that is no number, or one beyond those of the largest table
 pub rest-stopped : (n m : List ℕ) (word : Option ℕ) (later : List (Option ℕ)) → (word ≡ none) ⊎ (length m ≡ 8192) →
-    cells (getD n 0 0) (getD n 1 0) ≤ most-cells → rest-asked n (as-words m ++ word ∷ later) ≡ bad-input
+    cells (getD n 0 0) (getD n 1 0) ≤ most-cells → rest-requested n (as-words m ++ word ∷ later) ≡ bad-input
 rest-stopped n m word later (inl e) h =
     bad-unless _ _
     (λ q.
@@ -120,7 +120,7 @@ rest-stopped n m word later (inr e) h =
     absurd (omega (arith, length-append (as-words m) (word ∷ later), words-length m)))
 
 -- not so many as the cells
-pub rest-other : (n m : List ℕ) → (length m ≡ 2 * cells (getD n 0 0) (getD n 1 0) → ⊥) → rest-asked n (as-words m ++ []) ≡ bad-input
+pub rest-other : (n m : List ℕ) → (length m ≡ 2 * cells (getD n 0 0) (getD n 1 0) → ⊥) → rest-requested n (as-words m ++ []) ≡ bad-input
 rest-other n m f =
     bad-unless _ _
     (λ q.
@@ -130,7 +130,7 @@ rest-other n m f =
 -- the cells of both tables
 pub rest-cells : (n m : List ℕ) → length m ≡ 2 * cells (getD n 0 0) (getD n 1 0) →
     let k = cells (getD n 0 0) (getD n 1 0) in
-    rest-asked n (as-words m ++ []) ≡ to-plan (getD n 0 0) (getD n 1 0) (getD n 2 0) (getD n 3 0) (take k m) (drop k m)
+    rest-requested n (as-words m ++ []) ≡ to-plan (getD n 0 0) (getD n 1 0) (getD n 2 0) (getD n 3 0) (take k m) (drop k m)
 rest-cells n m e =
     let k = 2 * cells (getD n 0 0) (getD n 1 0) in
     let w = with-cells (getD n 0 0) (getD n 1 0) (getD n 2 0) (getD n 3 0) in
@@ -140,11 +140,11 @@ rest-cells n m e =
     ∙ ap (λ (l : List ℕ). w (some l)) (take-all k m (omega arith))
 
 -- a word that cannot be taken: what is asked, whatever follows
-abbrev pub stop-asked : List ℕ → ℕ → Asked
-stop-asked n t = cond (ltb t 4) bad-input (settled n bad-input)
+abbrev pub stop-requested : List ℕ → ℕ → Request
+stop-requested n t = cond (ltb t 4) bad-input (settled n bad-input)
 
 stop-four : (n : List ℕ) (t : ℕ) (word : Option ℕ) (later : List (Option ℕ)) → length n ≡ 8196 → t ≤ length n → (word ≡ none) ⊎ (t ≡ length n) →
-    4 ≤ t → asked-of (as-words (take t n) ++ word ∷ later) ≡ settled n bad-input
+    4 ≤ t → request-of (as-words (take t n) ++ word ∷ later) ≡ settled n bad-input
 stop-four n t word later len h w g =
     four-given n t (word ∷ later) g h
     ∙ settled-same n _ bad-input (rest-stopped n (drop 4 (take t n)) word later (beyond w))
@@ -159,10 +159,10 @@ stop-barred n t word later len (inl e) g = λ j. rw e
 stop-barred n t word later len (inr e) g = absurd (omega arith)
 
 stop-words : (n : List ℕ) (t : ℕ) (word : Option ℕ) (later : List (Option ℕ)) → length n ≡ 8196 → t ≤ length n → (word ≡ none) ⊎ (t ≡ length n) →
-    asked-of (as-words (take t n) ++ word ∷ later) ≡ stop-asked n t
+    request-of (as-words (take t n) ++ word ∷ later) ≡ stop-requested n t
 stop-words n t word later len h w = by-few (ltb t 4) refl
   where
-    by-few : (few : Bool) → ltb t 4 ≡ few → asked-of (as-words (take t n) ++ word ∷ later) ≡ cond few bad-input (settled n bad-input)
+    by-few : (few : Bool) → ltb t 4 ≡ few → request-of (as-words (take t n) ++ word ∷ later) ≡ cond few bad-input (settled n bad-input)
     by-few true e = too-few n t (word ∷ later) (omega (arith, ltb-true t 4 e)) (stop-barred n t word later len w (ltb-true t 4 e))
     by-few false e = stop-four n t word later len h w (ltb-false t 4 e)
 
@@ -227,7 +227,7 @@ all-taken text n s (so-far w m t sh f) e =
 
 -- where it was ended and a word was not taken
 pub not-taken : (text n : List ℕ) (s : State) → length n ≡ 8196 → Fed (text ++ (32 ∷ [])) n s → s .more ≡ true →
-    asked text ≡ stop-asked n (s .taken)
+    request text ≡ stop-requested n (s .taken)
 not-taken text n s len (so-far w m t sh f) e = never (cc)
 not-taken text n s len (stopped word m t wh f) e =
     by-words text (sym (ends-as-separator text) ∙ ap words (sym (append-nil (text ++ (32 ∷ [])))) ∙ f [] .1) ∙ stop-words n (s .taken) word

@@ -13,13 +13,13 @@ use Rattle.checks.specs.Planning.{range-checks}
 use Rattle.tables.specs.Law.{law-out}
 use Rattle.reading.specs.Text.{words}
 
-pub data Asked : Type 0 where
-  bad-input : Asked
+pub data Request : Type 0 where
+  bad-input : Request
   -- refused before a cell is read
-  out-of-range : Refusal → Asked
-  too-large : Asked
+  out-of-range : Refusal → Request
+  too-large : Request
   -- "N Q law B, the rates, the distortions"
-  to-plan : (N Q law B : ℕ) (rates distortions : List ℕ) → Asked
+  to-plan : (N Q law B : ℕ) (rates distortions : List ℕ) → Request
 
 -- the first k words as numbers; none where one of them is missing or is no number
 abbrev pub add : ℕ → Option (List ℕ) → Option (List ℕ)
@@ -42,20 +42,20 @@ range-refusal N Q law = first-refusal (range-checks most-scans N Q (law-out law)
 
 -- "the cells are read to the end of the input. A missing or extra number .. or any other text in what is read": all words after the first
 -- four are numbers, and they are the cells of two tables
-abbrev pub with-cells : (N Q law B : ℕ) → Option (List ℕ) → Asked
+abbrev pub with-cells : (N Q law B : ℕ) → Option (List ℕ) → Request
 with-cells N Q law B none = bad-input
 with-cells N Q law B (some l) = to-plan N Q law B (take (cells N Q) l) (drop (cells N Q) l)
 
-abbrev pub with-rest : (N Q law B : ℕ) → List (Option ℕ) → Asked
+abbrev pub with-rest : (N Q law B : ℕ) → List (Option ℕ) → Request
 with-rest N Q law B ws = cond (eqb (length ws) (2 * cells N Q)) (with-cells N Q law B (first (2 * cells N Q) ws)) bad-input
 
-abbrev pub in-range : Option Refusal → Asked → Asked
+abbrev pub in-range : Option Refusal → Request → Request
 in-range none a = a
 in-range (some r) a = out-of-range r
 
 -- "The first four numbers are read first. If N, Q or law is then out of range it prints the refusal on both lines and reads no further;
 -- otherwise over 4,096 cells gives "too large"; otherwise the cells are read"
-abbrev pub with-four : Option (List ℕ) → List (Option ℕ) → Asked
+abbrev pub with-four : Option (List ℕ) → List (Option ℕ) → Request
 with-four none ws = bad-input
 with-four (some h) ws =
     let N = getD h 0 0 in
@@ -63,5 +63,5 @@ with-four (some h) ws =
     let law = getD h 2 0 in
     in-range (range-refusal N Q law) (cond (ltb most-cells (cells N Q)) too-large (with-rest N Q law (getD h 3 0) ws))
 
-unfoldable pub asked : List ℕ → Asked
-asked text = with-four (first 4 (words text)) (drop 4 (words text))
+unfoldable pub request : List ℕ → Request
+request text = with-four (first 4 (words text)) (drop 4 (words text))
