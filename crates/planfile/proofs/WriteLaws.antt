@@ -3,12 +3,12 @@ use mathlib.Core.Path.{_≡_, refl, sym, ap, _∙_}
 use mathlib.Core.Bool.{true, false, cond}
 use mathlib.Core.Option.{none, some}
 use mathlib.Core.List.{List, [], _∷_, _++_, append-nil, append-assoc}
-use Prim.Native.Nat.{ℕ, zero, suc, _+_, _≤_, _<_}
+use Prim.Native.Nat.{ℕ, zero, suc, _+_, _*_, _≤_, _<_}
 use native.Mathlib.Nat.{zero-add}
 use native.Mathlib.Omega.{arith}
 use lib.Dec.{ltb}
 use lib.ListN.{length, drop, getD}
-use lib.Seq.{sets, sets-eq}
+use lib.Seq.{sets, sets-eq, length-sets}
 use borrow.Author.Tests.{ltb-false, lt-ltb}
 use Rattle.tables.specs.declared.refusal.Refusal.{Refusal}
 use Rattle.tables.specs.declared.refusal.Refusal.the-variants as refusal
@@ -17,6 +17,8 @@ use Rattle.checks.specs.Checks.{first-refusal, when}
 use Rattle.checks.specs.Planning.{scans-out}
 use Rattle.checks.proofs.RangeLaws.{in-range}
 use Rattle.laws.proofs.Tests.{neither}
+use Rattle.laws.proofs.Stores.{sets-append}
+use Rattle.blocks.proofs.DataLaws.{length-data}
 use Rattle.rules.specs.declared.Fields.{Fields}
 use Rattle.blocks.specs.File.{sealed, data-block, data-from, file-of, file-length}
 use Rattle.rules.specs.Rules.{header-rules}
@@ -81,3 +83,16 @@ data-more e n =
     let z : n ≡ 0 + n = omega arith in
     let s : suc n ≡ n + 1 = omega arith in
     ap (λ k. data-from e 0 n ++ sealed (data-block e k)) z ∙ data-snoc e 0 n ∙ ap (data-from e 0) s
+
+-- .. put behind those before it
+pub put-more : (e : ℕ → ℕ) (b : ℕ) (d : List ℕ) {file file′ : List ℕ} → file′ ≡ sets file (512 * suc b) (sealed (data-block e b)) →
+    file ≡ sets d 512 (data-from e 0 b) → file′ ≡ sets d 512 (data-from e 0 (b + 1))
+put-more e b d p i =
+    p
+    ∙ ap (λ x. sets x (512 * suc b) (sealed (data-block e b))) i
+    ∙ sets-append d (data-from e 0 b) (sealed (data-block e b)) 512 (512 * suc b) (omega (arith, length-data b e 0))
+    ∙ ap (sets d 512) (data-more e b)
+
+-- a file is as long as it was
+pub put-long : (at k : ℕ) (file w : List ℕ) {file′ : List ℕ} → file′ ≡ sets file at w → length file ≡ k → length file′ ≡ k
+put-long at k file w p i = ap length p ∙ length-sets file at w ∙ i

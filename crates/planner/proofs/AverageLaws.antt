@@ -6,13 +6,15 @@ use native.Mathlib.Omega.{arith}
 use Rattle.criteria.specs.Choice.{Problem, Multiplier, Average}
 use Rattle.criteria.specs.Fraction.{gcd}
 use Rattle.criteria.specs.Found.{Certificate, at-zero, tied, thrifty}
+use Rattle.criteria.proofs.Reduce.{average-reduced}
 use Rattle.tables.specs.Limits.{most-term, most-total}
+use Rattle.trellis.specs.Choices.{chosen}
 use Rattle.walk.specs.declared.Totals.{Totals}
 use Rattle.walk.specs.Walked.{TotalsOf}
 use Rattle.promise.specs.declared.AveragePlan.{AveragePlan}
 use Rattle.promise.specs.Promise.{IsAveragePlan}
 use Rattle.seek.specs.Sought.{ThriftyTotals}
-use Rattle.search.specs.Search.{Bracketed}
+use Rattle.search.specs.Search.{Bracketed, SlopeEnd}
 use Rattle.floor.specs.Reduced.{Reduced}
 
 module _ {P : Problem} where
@@ -50,6 +52,15 @@ module _ {P : Problem} where
     proves = rw (← (h .rate), ← (h .distortion)) (f .floor);
     values = rw (f .totals, h .rate, h .distortion, h .peak);
   }
+
+  -- where the slopes end, the product is small, and the answer is the average plan
+  module _ {N Q B n d : ℕ} {before after : List ℕ} (e : SlopeEnd P N Q B n d before after) where
+    pub slope-budget : ((t : List ℕ) → P .allowed t → P .rate t ≤ most-total) → n * B < 2 ^ 64
+    slope-budget small = budget-fits small (e .small-n) (e .ended .certificate)
+
+    pub slope-answer : {t : Totals} {r : AveragePlan} → Reduced n d B t r → TotalsOf P (chosen Q N after) t →
+        IsAveragePlan P B (chosen Q N after) (r .n ∷ r .d ∷ r .totals .rate .0 ∷ r .totals .distortion .0 ∷ r .totals .peak ∷ r .floor .0 ∷ [])
+    slope-answer = answer-is (average-reduced P n d B (e .ended .whole) (e .ended .plan) (e .ended .fits) (e .ended .certificate))
 
 -- the totals of an allowed sequence are within the limits
 pub finished-small : {P : Problem} {s : List ℕ} {t : Totals} → ((u : List ℕ) → P .allowed u → (P .distortion u ≤ most-total) × (P .rate u ≤ most-total)) →

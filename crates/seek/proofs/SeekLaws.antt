@@ -1,7 +1,7 @@
 -- What a pass finds, in the words of the criteria: one key stands for two, and the sequences of a pass are those under its ceiling.
 -- Assumes nothing.
 use mathlib.Core.Path.{_≡_, refl, ap}
-use mathlib.Core.Bool.{Bool}
+use mathlib.Core.Bool.{Bool, true}
 use mathlib.Core.List.{List, [], _∷_, _++_}
 use Prim.Native.Nat.{ℕ, suc, _+_, _≤_, _<_}
 use native.Mathlib.Omega.{arith}
@@ -87,17 +87,23 @@ module _ {N Q : ℕ} (law : ℕ) {rates distortions : List ℕ} {room : ℕ} (fi
   pub open-thriftiest : {s : List ℕ} → Ceiling P no-ceiling s → Thriftiest P s
   open-thriftiest c = best-same (λ t w. w .0) open-under (λ t w. refl) (λ t w. refl) c
 
--- refusal 9 of a ceiling call: something is allowed, and nothing is under X
-pub nothing-under : {P : Problem} {X Y : ℕ} {s : List ℕ} → Ceiling P Y s → ((t : List ℕ) → UnderCeiling P X t → ⊥) → NoneWithin P (UnderCeiling P X)
-nothing-under {s = s} c none = record { exist = (s, c .one .0); none-within = none }
+  -- refusal 9 of a call with a budget: the plan of a pass with no ceiling does not fit
+  pub nothing-fits : {before after : List ℕ} {found : Bool} {B R : ℕ} → ThriftyPass P N Q no-ceiling before after found → found ≡ true →
+      R ≡ P .rate (chosen Q N after) → B < R → NoneWithin P (InBudget P B)
+  nothing-fits {after = after} p f e h =
+      let c = open-thriftiest (p .some f) in
+      record { exist = (chosen Q N after, c .one); none-within = λ t w. omega (arith, then-le (c .ahead t (w .0)), w .1) }
 
--- .. and of a call with a budget: the least-rate plan does not fit
-pub nothing-fits : {P : Problem} {B R : ℕ} {s : List ℕ} → Thriftiest P s → R ≡ P .rate s → B < R → NoneWithin P (InBudget P B)
-nothing-fits {s = s} c e h = record { exist = (s, c .one); none-within = λ t w. omega (arith, then-le (c .ahead t (w .0)), w .1) }
+  -- .. or it does
+  pub thrifty-totals : {before after : List ℕ} {found : Bool} {B : ℕ} {t : Totals} → ThriftyPass P N Q no-ceiling before after found → found ≡ true →
+      TotalsOf P (chosen Q N after) t → t .rate .0 ≤ B → ThriftyTotals P B t
+  thrifty-totals {after = after} p f h g =
+      record { plan = chosen Q N after; thriftiest = open-thriftiest (p .some f); totals = h; fits = omega (arith, h .rate) }
 
--- .. or it does
-pub thrifty-totals : {P : Problem} {B : ℕ} {s : List ℕ} {t : Totals} → Thriftiest P s → TotalsOf P s t → t .rate .0 ≤ B → ThriftyTotals P B t
-thrifty-totals {s = s} c h g = record { plan = s; thriftiest = c; totals = h; fits = omega (arith, h .rate) }
+-- refusal 9 of a ceiling call: something is under another ceiling, and nothing is under X
+pub nothing-under : {P : Problem} {N Q X Y : ℕ} {before after : List ℕ} {found : Bool} → ThriftyPass P N Q Y before after found → found ≡ true →
+    ((t : List ℕ) → UnderCeiling P X t → ⊥) → NoneWithin P (UnderCeiling P X)
+nothing-under {N = N} {Q = Q} {after = after} p f none = record { exist = (chosen Q N after, p .some f .one .0); none-within = none }
 
 -- frames, one after another
 pub framed-on : {k : ℕ} {a b c : List ℕ} → Framed k a b → Framed k b c → Framed k a c

@@ -34,24 +34,19 @@ scans-inside n e = none-when (scans-out (scans n)) Scans (none-else (when (scans
 not-large : {n : List ℕ} {k : ℕ} → Planable n k → ltb most-cells (cells (scans n) (settings n)) ≡ false
 not-large {n} {k} f = let c = f .counted in let m = f .few in le-ltb most-cells (cells (scans n) (settings n)) (omega arith)
 
--- whether they settle what is asked
-pub settles-refused : (n : List ℕ) (r : Refusal) → out-by n ≡ some r → settles n ≡ true
-settles-refused n r e = by-tests (scans-out (scans n)) (settings-out (settings n)) (law-out (law n)) _ e
-  where
-    by-tests : (p q s l : Bool) → or-else (when p Scans) (or-else (when q Settings) (or-else (when s StepLaw) none)) ≡ some r → (p || q || s || l) ≡ true
-    by-tests true q s l e = refl
-    by-tests false true s l e = refl
-    by-tests false false true l e = refl
-    by-tests false false false l e = never (cc)
+-- whether they settle what is asked: out of range, or else by the size
+abbrev settles-by : Option Refusal → Bool → Bool
+settles-by (some r) large = true
+settles-by none large = large
 
-settles-by-size : (n : List ℕ) → out-by n ≡ none → settles n ≡ ltb most-cells (cells (scans n) (settings n))
-settles-by-size n e = by-tests (scans-out (scans n)) (settings-out (settings n)) (law-out (law n)) _ e
+by-range : (n : List ℕ) → settles n ≡ settles-by (out-by n) (ltb most-cells (cells (scans n) (settings n)))
+by-range n = by-tests (scans-out (scans n)) (settings-out (settings n)) (law-out (law n)) _
   where
-    by-tests : (p q s l : Bool) → or-else (when p Scans) (or-else (when q Settings) (or-else (when s StepLaw) none)) ≡ none → (p || q || s || l) ≡ l
-    by-tests true q s l e = never (cc)
-    by-tests false true s l e = never (cc)
-    by-tests false false true l e = never (cc)
-    by-tests false false false l e = refl
+    by-tests : (p q s l : Bool) → (p || q || s || l) ≡ settles-by (or-else (when p Scans) (or-else (when q Settings) (or-else (when s StepLaw) none))) l
+    by-tests true q s l = refl
+    by-tests false true s l = refl
+    by-tests false false true l = refl
+    by-tests false false false l = refl
 
 abbrev pub stops : Head → Bool
 stops (head.Refused r) = true
@@ -59,10 +54,9 @@ stops head.TooLarge = true
 stops (head.Cells k) = false
 
 pub head-settles : (n : List ℕ) (h : Head) → Heads n h → settles n ≡ stops h
-head-settles n (head.Refused r) e = settles-refused n r e
-head-settles n head.TooLarge e = settles-by-size n (e .0) ∙ lt-ltb _ _ (e .1)
-head-settles n (head.Cells k) f =
-    settles-by-size n (f .in-range) ∙ not-large f
+head-settles n (head.Refused r) e = rw e at (by-range n)
+head-settles n head.TooLarge e = rw (e .0) at (by-range n) ∙ lt-ltb _ _ (e .1)
+head-settles n (head.Cells k) f = rw (f .in-range) at (by-range n) ∙ not-large f
 
 -- what is asked beyond the first four
 abbrev left-requested : List ℕ → State → Request
@@ -85,22 +79,14 @@ module _ (n : List ℕ) (s : State) (len : length n ≡ 8196) where
       by-more false e = let t = all-taken text n s fed e in by-words text (t .1) ∙ four-given n (s .taken) [] h (t .0)
 
   pub refused-requested : {r : Refusal} → 4 ≤ s .taken → out-by n ≡ some r → Requests n s (out-of-range r)
-  refused-requested h e text fed =
-      four-requested h text fed
-      ∙ ap (λ (o : Option Refusal). in-range o (cond (ltb most-cells (cells (scans n) (settings n))) too-large (left-requested n s))) e
+  refused-requested h e text fed = rw e at (four-requested h text fed)
 
   pub large-requested : 4 ≤ s .taken → out-by n ≡ none → most-cells < cells (scans n) (settings n) → Requests n s too-large
-  large-requested h e g text fed =
-      four-requested h text fed
-      ∙ ap (λ (o : Option Refusal). in-range o (cond (ltb most-cells (cells (scans n) (settings n))) too-large (left-requested n s))) e
-      ∙ ap (λ (b : Bool). cond b too-large (left-requested n s)) (lt-ltb _ _ g)
+  large-requested h e g text fed = rw (e, lt-ltb _ _ g) at (four-requested h text fed)
 
   -- in range and not too large: the rest decides
   rest-decides : {k : ℕ} → 4 ≤ s .taken → Planable n k → Requests n s (left-requested n s)
-  rest-decides h f text fed =
-      four-requested h text fed
-      ∙ ap (λ (o : Option Refusal). in-range o (cond (ltb most-cells (cells (scans n) (settings n))) too-large (left-requested n s))) (f .in-range)
-      ∙ ap (λ (b : Bool). cond b too-large (left-requested n s)) (not-large f)
+  rest-decides h f text fed = rw (f .in-range, not-large f) at (four-requested h text fed)
 
   -- the numbers after the first four
   after-four : (k : ℕ) → k ≤ most-cells → s .taken ≡ 4 + 2 * k → drop 4 (taken-of n s) ≡ take (2 * k) (drop 4 n)

@@ -12,7 +12,8 @@ use borrow.Author.Count.{below-more}
 use Rattle.tables.specs.declared.refusal.Refusal.the-variants as refusal
 use Rattle.blocks.specs.File.{entry-at}
 use Rattle.checks.specs.Checks.{found}
-use Rattle.entries.specs.Entries.{breaks, entry-broken}
+use Rattle.entries.specs.Entries.{entry-broken}
+use Rattle.entries.proofs.EntryLaws.{breaks-of}
 use Rattle.checks.proofs.CheckLaws.{first-found, none-first}
 use Rattle.entries.proofs.check_file.Statement.{statement}
 use Rattle.entries.proofs.check_file.Tie as tie
@@ -31,9 +32,7 @@ unfolding entry-broken
 judged c =
     let a = c .before .before .before .before .before .before .before .before .args in
     let l = c .before .before .before .before .loop in
-    c .entry-wrong .ensures
-    ∙ ap (λ p. breaks (a .scans) (a .settings) (a .law) (l .j) p (c .before .byte-to-number2 .result)) (l .inv .1 .0)
-    ∙ ap (breaks (a .scans) (a .settings) (a .law) (l .j) (entry-at (now (a .file)) (l .j - 1))) (c .before .byte-to-number2 .ensures .0 ∙ c .before .before .get2 .ensures .0)
+    breaks-of (a .scans) (a .settings) (a .law) (l .j) (c .entry-wrong .ensures) (l .inv .1 .0) (c .before .byte-to-number2 .ensures .0 ∙ c .before .before .get2 .ensures .0)
 
 sub-count : tie.Need-sub-count Inv-loop μ-loop
 sub-count c = omega arith

@@ -11,7 +11,8 @@ use denote.Ref.{now}
 use borrow.Author.Count.{below-more}
 use Rattle.tables.specs.declared.refusal.Refusal.the-variants as refusal
 use Rattle.checks.specs.Checks.{found}
-use Rattle.entries.specs.Entries.{breaks, entry-broken}
+use Rattle.entries.specs.Entries.{entry-broken}
+use Rattle.entries.proofs.EntryLaws.{breaks-of}
 use Rattle.checks.proofs.CheckLaws.{first-found, none-first}
 use Rattle.entries.proofs.check_settings.Statement.{statement}
 use Rattle.entries.proofs.check_settings.Tie as tie
@@ -30,9 +31,7 @@ unfolding entry-broken
 judged c =
     let a = c .before .before .before .before .before .before .before .before .args in
     let l = c .before .before .before .before .loop in
-    c .entry-wrong .ensures
-    ∙ ap (λ p. breaks (a .scans) (a .settings) (a .law) (l .j) p (c .before .byte-to-number2 .result)) (l .inv .1 .0)
-    ∙ ap (breaks (a .scans) (a .settings) (a .law) (l .j) (getD (now (a .list)) (l .j - 1) 0)) (c .before .byte-to-number2 .ensures .0)
+    breaks-of (a .scans) (a .settings) (a .law) (l .j) (c .entry-wrong .ensures) (l .inv .1 .0) (c .before .byte-to-number2 .ensures .0)
 
 shared-slice-read-byte-to-number : tie.Need-shared-slice-read-byte-to-number Inv-loop μ-loop
 shared-slice-read-byte-to-number c = search needs

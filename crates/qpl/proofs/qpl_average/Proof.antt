@@ -4,11 +4,16 @@ use native.Mathlib.Omega.{arith}
 use lib.ListN.{length}
 use lib.Seq.{length-take-le}
 use denote.Ref.{now}
-use Rattle.promise.specs.Promise.{average-reply}
+use Rattle.criteria.specs.Choice.{Problem, InBudget}
+use Rattle.tables.specs.Tables.{table, planning}
+use Rattle.promise.specs.Promise.{average-reply, IsAveragePlan}
 use Rattle.qpl.proofs.LentLaws.{planning-tellable, planning-tells}
 use borrow.Author.Needs.{needs}
 use Rattle.qpl.proofs.qpl_average.Statement.{statement}
 use Rattle.qpl.proofs.qpl_average.Tie as tie
+
+abbrev problem : tie.Start → Problem
+problem s = planning (table (s .args .scans) (s .args .settings) (s .args .law) (s .args .rates .now) (s .args .distortions .now))
 
 lent-requires : tie.Need-lent-requires
 lent-requires c κs = search needs
@@ -30,10 +35,11 @@ tell-requires c κs =
     let said = c .before in
     let called = said .before .before .before .before .before in
     let lends = called .before .before .before in
-    let a = lends .before .before .before .before .before .before .args in (
+    let start = lends .before .before .before .before .before .before in
+    let a = start .args in (
       said .average-answer .ensures .1,
-      planning-tellable average-reply (called .average-plan .result) 48 (now (a .answer)) (now (a .plan)) (lends .lent .ensures) (called .average-plan .ensures)
-      (said .average-answer .ensures .0) tt (λ t v q. omega (arith, ap length (q .values))),
+      planning-tellable average-reply (called .average-plan .result) 48 (now (a .answer)) (now (a .plan)) {within = InBudget (problem start) (a .budget)} {Plan = IsAveragePlan (problem start) (a .budget)} (lends .lent .ensures) (called .average-plan .ensures)
+          (said .average-answer .ensures .0) tt (λ t v q. omega (arith, ap length (q .values))),
     )
 
 same-length : tie.Need-same-length
@@ -51,8 +57,9 @@ returns c =
     let said = told .before .before in
     let called = said .before .before .before .before .before in
     let lends = called .before .before .before in
-    let a = lends .before .before .before .before .before .before .args in
-    planning-tells average-reply (called .average-plan .result) 48 (now (a .answer)) (now (a .plan)) (lends .lent .ensures) (called .average-plan .ensures)
+    let start = lends .before .before .before .before .before .before in
+    let a = start .args in
+    planning-tells average-reply (called .average-plan .result) 48 (now (a .answer)) (now (a .plan)) {within = InBudget (problem start) (a .budget)} {Plan = IsAveragePlan (problem start) (a .budget)} (lends .lent .ensures) (called .average-plan .ensures)
     (said .average-answer .ensures .0) (told .tell .ensures)
 
 pub qpl-average-spec : {M : Type 1} → statement M

@@ -4,11 +4,16 @@ use native.Mathlib.Omega.{arith}
 use lib.ListN.{length}
 use lib.Seq.{length-take-le}
 use denote.Ref.{now}
-use Rattle.promise.specs.Promise.{plan-reply}
+use Rattle.criteria.specs.Choice.{Problem, UnderCeiling}
+use Rattle.tables.specs.Tables.{table, planning}
+use Rattle.promise.specs.Promise.{plan-reply, IsCeilingPlan}
 use Rattle.qpl.proofs.LentLaws.{planning-tellable, planning-tells}
 use borrow.Author.Needs.{needs}
 use Rattle.qpl.proofs.qpl_ceiling.Statement.{statement}
 use Rattle.qpl.proofs.qpl_ceiling.Tie as tie
+
+abbrev problem : tie.Start → Problem
+problem s = planning (table (s .args .scans) (s .args .settings) (s .args .law) (s .args .rates .now) (s .args .distortions .now))
 
 lent-requires : tie.Need-lent-requires
 lent-requires c κs = search needs
@@ -30,10 +35,11 @@ tell-requires c κs =
     let said = c .before in
     let called = said .before .before .before .before .before in
     let lends = called .before .before .before in
-    let a = lends .before .before .before .before .before .before .args in (
+    let start = lends .before .before .before .before .before .before in
+    let a = start .args in (
       said .plan-answer .ensures .1,
-      planning-tellable plan-reply (called .ceiling-plan .result) 24 (now (a .answer)) (now (a .plan)) (lends .lent .ensures) (called .ceiling-plan .ensures)
-      (said .plan-answer .ensures .0) tt (λ t v q. omega (arith, ap length (q .1))),
+      planning-tellable plan-reply (called .ceiling-plan .result) 24 (now (a .answer)) (now (a .plan)) {within = UnderCeiling (problem start) (a .ceiling)} {Plan = IsCeilingPlan (problem start) (a .ceiling)} (lends .lent .ensures) (called .ceiling-plan .ensures)
+          (said .plan-answer .ensures .0) tt (λ t v q. omega (arith, ap length (q .1))),
     )
 
 same-length : tie.Need-same-length
@@ -51,8 +57,9 @@ returns c =
     let said = told .before .before in
     let called = said .before .before .before .before .before in
     let lends = called .before .before .before in
-    let a = lends .before .before .before .before .before .before .args in
-    planning-tells plan-reply (called .ceiling-plan .result) 24 (now (a .answer)) (now (a .plan)) (lends .lent .ensures) (called .ceiling-plan .ensures)
+    let start = lends .before .before .before .before .before .before in
+    let a = start .args in
+    planning-tells plan-reply (called .ceiling-plan .result) 24 (now (a .answer)) (now (a .plan)) {within = UnderCeiling (problem start) (a .ceiling)} {Plan = IsCeilingPlan (problem start) (a .ceiling)} (lends .lent .ensures) (called .ceiling-plan .ensures)
     (said .plan-answer .ensures .0) (told .tell .ensures)
 
 pub qpl-ceiling-spec : {M : Type 1} → statement M

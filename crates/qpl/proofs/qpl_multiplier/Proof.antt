@@ -4,15 +4,20 @@ use native.Mathlib.Omega.{arith}
 use lib.ListN.{length}
 use lib.Seq.{length-take-le}
 use denote.Ref.{now}
+use Rattle.criteria.specs.Choice.{Problem}
+use Rattle.tables.specs.Tables.{table, planning}
 use Rattle.tables.specs.declared.refusal.Refusal.the-variants as refusal
 use Rattle.checks.specs.Planning.{multiplier-out}
 use Rattle.checks.proofs.GiveLaws.{gives-when}
-use Rattle.promise.specs.Promise.{plan-reply}
+use Rattle.promise.specs.Promise.{plan-reply, IsMultiplierPlan}
 use Rattle.qpl.proofs.CarryLaws.{Little}
 use Rattle.qpl.proofs.LentLaws.{planning-tellable, planning-tells}
 use borrow.Author.Needs.{needs}
 use Rattle.qpl.proofs.qpl_multiplier.Statement.{statement}
 use Rattle.qpl.proofs.qpl_multiplier.Tie as tie
+
+abbrev problem : tie.Start → Problem
+problem s = planning (table (s .args .scans) (s .args .settings) (s .args .law) (s .args .rates .now) (s .args .distortions .now))
 
 lent-requires : tie.Need-lent-requires
 lent-requires c κs = search needs
@@ -34,10 +39,11 @@ tell-requires c κs =
     let said = c .before in
     let called = said .before .before .before .before .before in
     let lends = called .before .before .before in
-    let a = lends .before .before .before .before .before .before .args in (
+    let start = lends .before .before .before .before .before .before in
+    let a = start .args in (
       said .plan-answer .ensures .1,
-      planning-tellable plan-reply (called .multiplier-plan .result) 24 (now (a .answer)) (now (a .plan)) (lends .lent .ensures) (called .multiplier-plan .ensures)
-      (said .plan-answer .ensures .0) (gives-when Little (multiplier-out (a .n) (a .d)) refusal.Multiplier (omega arith)) (λ t v q. omega (arith, ap length (q .1))),
+      planning-tellable plan-reply (called .multiplier-plan .result) 24 (now (a .answer)) (now (a .plan)) {within = problem start .allowed} {Plan = IsMultiplierPlan (problem start) (a .n) (a .d)} (lends .lent .ensures) (called .multiplier-plan .ensures)
+          (said .plan-answer .ensures .0) (gives-when Little (multiplier-out (a .n) (a .d)) refusal.Multiplier (omega arith)) (λ t v q. omega (arith, ap length (q .1))),
     )
 
 same-length : tie.Need-same-length
@@ -55,8 +61,9 @@ returns c =
     let said = told .before .before in
     let called = said .before .before .before .before .before in
     let lends = called .before .before .before in
-    let a = lends .before .before .before .before .before .before .args in
-    planning-tells plan-reply (called .multiplier-plan .result) 24 (now (a .answer)) (now (a .plan)) (lends .lent .ensures) (called .multiplier-plan .ensures)
+    let start = lends .before .before .before .before .before .before in
+    let a = start .args in
+    planning-tells plan-reply (called .multiplier-plan .result) 24 (now (a .answer)) (now (a .plan)) {within = problem start .allowed} {Plan = IsMultiplierPlan (problem start) (a .n) (a .d)} (lends .lent .ensures) (called .multiplier-plan .ensures)
     (said .plan-answer .ensures .0) (told .tell .ensures)
 
 pub qpl-multiplier-spec : {M : Type 1} → statement M

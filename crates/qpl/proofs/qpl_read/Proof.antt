@@ -61,7 +61,7 @@ returns c =
     let a = lends .before .before .before .before .args in (
       told-as (now (a .answer)) (told .tell .result) (told .tell .last .1 .0) (said (told .before .before)) (told .tell .ensures),
       read-whole (now (a .file)) (now (a .settings)) (lends .lent .result) (front-length (now (a .settings)) (lends .lent .ensures))
-      (called .read-plan .ensures .1),
+          (called .read-plan .ensures .1),
     )
 
 pub qpl-read-spec : {M : Type 1} → statement M

@@ -21,7 +21,7 @@ returns c =
     let asked = c .before .before .before in
     let a = asked .before .args in (
       room-last (a .channels) (a .scans) (a .settings) (a .answer) (ended (room .result .ended)) _ (room .ensures .0 ∙ asked .room-for .ensures)
-      (c .then .ensures),
+          (c .then .ensures),
       room .ensures .1,
     )
 

@@ -11,8 +11,7 @@ use Rattle.blocks.specs.File.{sealed, header, data-block, data-blocks, data-fro
 use Rattle.laws.proofs.Stores.{sets-append}
 use Rattle.blocks.proofs.BlockLaws.{length-sealed}
 use Rattle.blocks.proofs.HeaderLaws.{length-header}
-use Rattle.blocks.proofs.DataLaws.{length-data}
-use Rattle.planfile.proofs.WriteLaws.{data-more}
+use Rattle.planfile.proofs.WriteLaws.{put-more, put-long}
 use Rattle.planfile.proofs.write.put_file.Statement.{statement}
 use Rattle.planfile.proofs.write.put_file.Tie as tie
 
@@ -52,11 +51,8 @@ loop-again c =
     let d = c .before .before .before .before .before .before .before .before .before .put-header .last .0 in (
       omega (arith, c .before .before .before .before .loop-test .taken),
       (
-        ap length (c .before .before .put-data .ensures) ∙ length-sets (l .file) (512 * suc (l .b)) (sealed (data-block e (l .b))) ∙ l .inv .1 .0,
-        c .before .before .put-data .ensures
-            ∙ ap (λ x. sets x (512 * suc (l .b)) (sealed (data-block e (l .b)))) (l .inv .1 .1)
-            ∙ sets-append d (data-from e 0 (l .b)) (sealed (data-block e (l .b))) 512 (512 * suc (l .b)) (omega (arith, length-data (l .b) e 0))
-            ∙ ap (sets d 512) (data-more e (l .b)),
+        put-long (512 * suc (l .b)) (length d) (l .file) (sealed (data-block e (l .b))) (c .before .before .put-data .ensures) (l .inv .1 .0),
+        put-more e (l .b) d (c .before .before .put-data .ensures) (l .inv .1 .1),
       ),
     )
 

@@ -1,11 +1,12 @@
 -- `planfile::write::write_plan` meets its contract: the stages in order, each with its way out. Assumes nothing.
 use mathlib.Core.Path.{_≡_, ap, _∙_}
 use mathlib.Core.Option.{none}
-use lib.ListN.{length}
+use lib.ListN.{length, getD}
 use denote.Ref.{now}
 use Rattle.tables.specs.declared.refusal.Refusal.the-variants as refusal
-use Rattle.checks.specs.Checks.{when, first-refusal}
+use Rattle.checks.specs.Checks.{when, found, first-from, first-refusal}
 use Rattle.checks.specs.Stages.{ended, why-of}
+use Rattle.entries.specs.Entries.{entry-broken}
 use Rattle.planfile.specs.Writing.{write-short, write-refusal, writer-checks}
 use Rattle.checks.proofs.StageLaws.{at-stop, at-pass, passed-none}
 use mathlib.Core.List.{[]}
@@ -105,8 +106,9 @@ why-requires-3 c κs = search needs
 returns-3 : tie.Need-returns-3
 returns-3 c =
     let a = c .before .before .before .before .before .before .before .before .before .before .before .before .before .args in
+    let bad = found refusal.Entry (first-from (entry-broken (a .f .scans) (a .f .settings) (a .f .law) (λ j. getD (now (a .settings)) j 0)) 0 (a .f .scans)) in
     refused-write (a .f) (now (a .settings)) (now (a .file)) (why-of (c .before .before .before .check-settings .result)) (c .why3 .result) (c .why3 .ensures)
-    (room-passed (c .before .before .before .before) ∙ at-stop [] (c .before .before .before .check-settings .ensures) (c .before .enum-told6 .given .1))
+    (room-passed (c .before .before .before .before) ∙ at-stop {o = bad} [] (c .before .before .before .check-settings .ensures) (c .before .enum-told6 .given .1))
 
 put-file-requires : tie.Need-put-file-requires
 put-file-requires c κs =

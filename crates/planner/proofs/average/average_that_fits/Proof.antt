@@ -8,7 +8,7 @@ use Rattle.criteria.proofs.Reduce.{average-reduced}
 use Rattle.seek.proofs.SeekLaws.{fit-framed, framed-on, sums-small}
 use Rattle.planner.proofs.PromiseLaws.{finished-given}
 use Rattle.search.proofs.SlopeLaws.{pass-finds}
-use Rattle.planner.proofs.AverageLaws.{bracket-first, budget-fits, answer-is, finished-small}
+use Rattle.planner.proofs.AverageLaws.{bracket-first, answer-is, slope-budget, slope-answer, finished-small}
 use borrow.Author.Needs.{needs}
 use Rattle.planner.proofs.average.average_that_fits.Statement.{statement}
 use Rattle.planner.proofs.average.average_that_fits.Tie as tie
@@ -72,7 +72,7 @@ answer-requires-2 c κs =
       (e .small-n, (e .ended .whole, e .small-d)),
       (
         finished-small {P = problem s} small (e .ended .plan .one) (c .before .before .before .before .finish2 .ensures .totals),
-        budget-fits {P = problem s} (λ t a. small t a .1) (e .small-n) (e .ended .certificate),
+        slope-budget {P = problem s} e (λ t a. small t a .1),
       ),
     )
 
@@ -88,7 +88,7 @@ returns-2 c =
     let e = c .before .before .before .before .before .before .before .before .before .before .slopes .ensures in
     let f = c .before .before .before .before .before .finish2 .ensures in
     finished-given {P = problem s} (framed-on (c .before .before .before .before .before .before .before .before .before .before .before .before .before .before .before .before .before .before .multiplier-pass .ensures .framed) (e .framed)) f
-    (answer-is {P = problem s} (average-reduced (problem s) _ _ _ (e .ended .whole) (e .ended .plan) (e .ended .fits) (e .ended .certificate)) (c .answer2 .ensures) (f .totals))
+    (slope-answer {P = problem s} e (c .answer2 .ensures) (f .totals))
 
 pub average-that-fits-spec : {M : Type 1} → statement M
 average-that-fits-spec =

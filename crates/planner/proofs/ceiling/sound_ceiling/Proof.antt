@@ -50,7 +50,7 @@ returns-2 c =
     let p = c .before .before .before .before .before .before .before .before .before .before .before .before .thrifty-pass .ensures in
     let q = c .before .before .before .before .before .before .before .thrifty-pass2 .ensures in
     says-none-within (c .before .before .before .before .before .before .before .before .before .before .before .before .before .before .before .before .before .before .pre) (framed-on (p .framed) (q .framed)) (c .before .before .before .wipe .ensures)
-    (nothing-under {P = problem (c .before .before .before .before .before .before .before .before .before .before .before .before .before .before .before .before .before .before)} (q .some (c .if2 .taken)) (p .none (c .before .before .before .before .before .before .before .before .before .if1 .left)))
+    (nothing-under {P = problem (c .before .before .before .before .before .before .before .before .before .before .before .before .before .before .before .before .before .before)} q (c .if2 .taken) (p .none (c .before .before .before .before .before .before .before .before .before .if1 .left)))
 
 same-length-4 : tie.Need-same-length-4
 same-length-4 c = search needs

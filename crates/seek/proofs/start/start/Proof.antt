@@ -1,16 +1,11 @@
 -- `seek::start::start` meets its contract: nothing fits where the least-rate plan does not. Assumes nothing.
-use Rattle.criteria.specs.Choice.{Problem}
-use Rattle.tables.specs.Tables.{table, planning}
 use Rattle.seek.specs.Started.{fits, none-allowed, none-fits}
-use Rattle.seek.proofs.SeekLaws.{wipe-fits, fit-framed, wiped-same, open-under, open-thriftiest, nothing-fits, thrifty-totals}
+use Rattle.seek.proofs.SeekLaws.{wipe-fits, fit-framed, wiped-same, open-under, nothing-fits, thrifty-totals}
 use mathlib.Core.Path.{_∙_}
 use borrow.Author.Tests.{not-true, not-false}
 use borrow.Author.Needs.{needs}
 use Rattle.seek.proofs.start.start.Statement.{statement}
 use Rattle.seek.proofs.start.start.Tie as tie
-
-abbrev problem : tie.Start → Problem
-problem s = planning (table (s .args .scans) (s .args .settings) (s .args .law) (s .args .rates .now) (s .args .distortions .now))
 
 thrifty-pass-requires : tie.Need-thrifty-pass-requires
 thrifty-pass-requires c κs = search needs
@@ -42,8 +37,8 @@ returns-2 : tie.Need-returns-2
 returns-2 c =
     let s = c .before .before .before .before .before .before .before .before .before .before .before .before .before .before .before .before in
     let p = c .before .before .before .before .before .before .before .before .before .before .before .thrifty-pass .ensures in
-    let l = p .some (not-false _ (c .before .before .before .before .before .before .before .before .if1 .left)) in
-    none-fits (nothing-fits {P = problem s} (open-thriftiest (s .args .law) (s .pre) l) (c .before .before .before .before .before .before .total-up .ensures .rate) (c .before .before .before .before .if2 .taken)) (c .before .before .wipe2 .ensures ∙ wiped-same (p .framed))
+    let found = not-false _ (c .before .before .before .before .before .before .before .before .if1 .left) in
+    none-fits (nothing-fits (s .args .law) (s .pre) p found (c .before .before .before .before .before .before .total-up .ensures .rate) (c .before .before .before .before .if2 .taken)) (c .before .before .wipe2 .ensures ∙ wiped-same (p .framed))
 
 same-length-3 : tie.Need-same-length-3
 same-length-3 c = search needs
@@ -52,8 +47,8 @@ returns-3 : tie.Need-returns-3
 returns-3 c =
     let s = c .before .before .before .before .before .before .before .before .before .before .before .before in
     let p = c .before .before .before .before .before .before .before .thrifty-pass .ensures in
-    let l = p .some (not-false _ (c .before .before .before .before .if1 .left)) in
-    fits (thrifty-totals {P = problem s} (open-thriftiest (s .args .law) (s .pre) l) (c .before .before .total-up .ensures) (c .if2 .left)) (p .framed)
+    let found = not-false _ (c .before .before .before .before .if1 .left) in
+    fits (thrifty-totals (s .args .law) (s .pre) p found (c .before .before .total-up .ensures) (c .if2 .left)) (p .framed)
 
 pub start-spec : {M : Type 1} → statement M
 start-spec =
