@@ -29,7 +29,7 @@ fn size(x: u64) -> usize
 
 // A further piece, as bench takes it: once it has read enough, what follows is skipped.
 fn taken(s: State, piece: &[u8], numbers: &mut [u32]) -> State
-    requires { ⌜ length (now numbers) ≡ 8196 ⌝ }
+    requires { ⌜ 8196 ≤ length (now numbers) ⌝ }
 {
     if workbench::enough(s, numbers) {
         return s;
@@ -39,7 +39,7 @@ fn taken(s: State, piece: &[u8], numbers: &mut [u32]) -> State
 
 // Reads the next bytes into all of the piece, and feeds them.
 fn next(s: State, piece: &mut [u8], numbers: &mut [u32]) -> State
-    requires { ⌜ length (now numbers) ≡ 8196 ⌝ }
+    requires { ⌜ 8196 ≤ length (now numbers) ⌝ }
 {
     let got = io::read_full(STDIN_FILENO, piece);
     taken(s, &piece[..got], numbers)
@@ -48,7 +48,7 @@ fn next(s: State, piece: &mut [u8], numbers: &mut [u32]) -> State
 // A text of so many bytes, in pieces of `size`.
 fn text(bytes: usize, size: usize, piece: &mut [u8], numbers: &mut [u32]) -> State
     requires { ⌜ (1 ≤ size) × (size ≤ length (now piece)) ⌝ }
-    requires { ⌜ length (now numbers) ≡ 8196 ⌝ }
+    requires { ⌜ 8196 ≤ length (now numbers) ⌝ }
 {
     let mut s = reading::fresh();
     let mut left = bytes;
@@ -62,7 +62,7 @@ fn text(bytes: usize, size: usize, piece: &mut [u8], numbers: &mut [u32]) -> Sta
 
 // The lines for the text, and a line that ends the case.
 fn put(s: State, numbers: &mut [u32], out: &mut [u8])
-    requires { ⌜ length (now numbers) ≡ 8196 ⌝ }
+    requires { ⌜ 8196 ≤ length (now numbers) ⌝ }
     requires { ⌜ length (now out) ≡ 8704 ⌝ }
 {
     let n = workbench::answer(s, numbers, out);
@@ -73,7 +73,7 @@ fn put(s: State, numbers: &mut [u32], out: &mut [u8])
 // One case; false where there is none.
 fn case(piece: &mut [u8], numbers: &mut [u32], out: &mut [u8]) -> bool
     requires { ⌜ length (now piece) ≡ 4096 ⌝ }
-    requires { ⌜ length (now numbers) ≡ 8196 ⌝ }
+    requires { ⌜ 8196 ≤ length (now numbers) ⌝ }
     requires { ⌜ length (now out) ≡ 8704 ⌝ }
 {
     if byte() != 1 {
@@ -88,7 +88,7 @@ fn case(piece: &mut [u8], numbers: &mut [u32], out: &mut [u8]) -> bool
 // A proved loop has to end, and nothing says that the input does. So it counts down from a number that no run uses up.
 pub fn every_case(piece: &mut [u8], numbers: &mut [u32], out: &mut [u8])
     requires { ⌜ length (now piece) ≡ 4096 ⌝ }
-    requires { ⌜ length (now numbers) ≡ 8196 ⌝ }
+    requires { ⌜ 8196 ≤ length (now numbers) ⌝ }
     requires { ⌜ length (now out) ≡ 8704 ⌝ }
 {
     let mut turns = u64::MAX;

@@ -1,4 +1,4 @@
--- A byte with one of its halves replaced. Assumes nothing.
+-- Where the byte of an entry stands. Assumes nothing.
 use Prim.Native.Nat.{ℕ, suc, _+_, _*_, _/_, _%_}
 use Rattle.blocks.specs.Sizes.{block-size, block-entries}
 

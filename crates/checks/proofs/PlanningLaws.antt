@@ -10,7 +10,7 @@ use borrow.Author.Tests.{eqb-true, ltb-false, not-false}
 use Rattle.laws.proofs.Tests.{neither, never}
 use Rattle.legal.specs.declared.Legality.{Legality}
 use Rattle.legal.specs.declared.Legality.the-variants.{Legal, Illegal}
-use Rattle.legal.specs.Judged.{Judged}
+use Rattle.legal.specs.Judged.{Judged, legality-refusal, all-legal, not-legal}
 use Rattle.legal.proofs.LegalLaws.{lowest-illegal-unique, not-both}
 use Rattle.tables.specs.declared.refusal.Refusal.{Refusal}
 use Rattle.tables.specs.declared.refusal.Refusal.the-variants as refusal
@@ -18,22 +18,23 @@ use Rattle.tables.specs.Limits.{most-scans, most-settings, most-term}
 use Rattle.tables.specs.Law.{law-out}
 use Rattle.tables.specs.Tables.{cells, scratch-need}
 use Rattle.checks.specs.declared.stage.Stage.{Stage}
-use Rattle.checks.specs.declared.stage.Stage.the-variants.{Passed, Stopped}
+use Rattle.checks.specs.declared.stage.Stage.the-variants.{Stopped}
 use Rattle.checks.specs.Checks.{zero-or-over, when, or-else, first-refusal}
 use Rattle.checks.specs.Planning.{Asked, Unsound, Sound, early, illegal, early-refusal, range-checks, scans-out, settings-out, lengths-out, buffers-short, multiplier-out}
-use Rattle.checks.specs.Stages.{ended, CheckedAs, CellsChecked, all-legal, not-legal}
+use Rattle.checks.specs.Stages.{ended, CheckedAs}
 use Rattle.checks.specs.Fit.{Fit}
 use Rattle.checks.proofs.GiveLaws.{Gives, gives-first, gives-when}
 use Rattle.checks.proofs.RangeLaws.{in-range}
 use Rattle.checks.proofs.CheckLaws.{none-when, all-pass, first-append}
 
 -- check 7 alone, by what the legality check answers
-pub cells-legal : {rates distortions : List ℕ} {v : Legality} → Judged rates distortions v → v ≡ Legal → CellsChecked rates distortions Passed
-cells-legal j e = all-legal (rw e at j)
+pub cells-legal : {rates distortions : List ℕ} {v : Legality} → Judged rates distortions (legality-refusal v) → v ≡ Legal →
+    Judged rates distortions none
+cells-legal j e = rw e at j
 
-pub cells-illegal : {rates distortions : List ℕ} {v : Legality} {k : ℕ} → Judged rates distortions v → v ≡ Illegal k →
-    CellsChecked rates distortions (Stopped (refusal.Cell k))
-cells-illegal j e = not-legal (rw e at j)
+pub cells-illegal : {rates distortions : List ℕ} {v : Legality} {k : ℕ} → Judged rates distortions (legality-refusal v) → v ≡ Illegal k →
+    Judged rates distortions (some (refusal.Cell k))
+cells-illegal j e = rw e at j
 
 -- numbers that passed 1 and 2 are in their range
 pub in-ranges : (most N Q : ℕ) (lawless : Bool) → first-refusal (range-checks most N Q lawless) ≡ none →
@@ -84,19 +85,19 @@ module _ (further : Option Refusal) (a : Asked) where
   stops-at-size {r} e f g = early {r = r} (early-parts ∙ rw (e, f, g) refl)
 
   -- .. as a stage of the code ends
-  pub range-stage : {z : Stage} {w : Refusal} → ended z ≡ range-refusal a → z ≡ Stopped w → CheckedAs further a z
+  pub range-stage : {z : Stage} {w : Refusal} → ended z ≡ range-refusal a → z ≡ Stopped w → CheckedAs further a (ended z)
   range-stage {z} {w} e q = rw q (stops-at-range {r = w} (sym e ∙ ap ended q))
 
-  pub further-stage : {z : Stage} {w : Refusal} → range-refusal a ≡ none → ended z ≡ further → z ≡ Stopped w → CheckedAs further a z
+  pub further-stage : {z : Stage} {w : Refusal} → range-refusal a ≡ none → ended z ≡ further → z ≡ Stopped w → CheckedAs further a (ended z)
   further-stage {z} {w} n e q = rw q (stops-at-further {r = w} n (sym e ∙ ap ended q))
 
   pub size-stage : {z : Stage} {w : Refusal} → range-refusal a ≡ none → further ≡ none → ended z ≡ first-refusal (size-checks a) → z ≡ Stopped w →
-      CheckedAs further a z
+      CheckedAs further a (ended z)
   size-stage {z} {w} n f e q = rw q (stops-at-size {r = w} n f (sym e ∙ ap ended q))
 
   -- where none of them refuses, the cells decide
-  pub cells-decide : {r : Stage} → range-refusal a ≡ none → further ≡ none → first-refusal (size-checks a) ≡ none →
-      CellsChecked (a .rates) (a .distortions) r → CheckedAs further a r
+  pub cells-decide : {o : Option Refusal} → range-refusal a ≡ none → further ≡ none → first-refusal (size-checks a) ≡ none →
+      Judged (a .rates) (a .distortions) o → CheckedAs further a o
   cells-decide e f g (all-legal h) = record { passed = early-parts ∙ rw (e, f, g) refl; legal = h }
   cells-decide e f g (not-legal h) = illegal (early-parts ∙ rw (e, f, g) refl) h
 

@@ -6,12 +6,12 @@ use Rattle.tables.specs.declared.refusal.Refusal.{Refusal}
 use Rattle.checks.specs.declared.stage.Stage.{Stage}
 use Rattle.checks.specs.declared.stage.Stage.the-variants.{Passed, Stopped}
 use Rattle.checks.specs.Checks.{or-else, first-refusal}
-use Rattle.checks.specs.Stages.{ended, why-of}
+use Rattle.checks.specs.Stages.{ended}
 
--- a stage that stopped is the refusal of all that come from it on
+-- a stage that stopped ends as all do that come from it on
 pub at-stop : {z : Stage} {w : Refusal} {o : Option Refusal} (rest : List (Option Refusal)) → ended z ≡ o → z ≡ Stopped w →
-    first-refusal (o ∷ rest) ≡ some (why-of z)
-at-stop {z} {w} {o} rest e q = ap (λ x. or-else x (first-refusal rest)) (sym e ∙ ap ended q) ∙ sym (ap (λ y. some (why-of y)) q)
+    ended z ≡ first-refusal (o ∷ rest)
+at-stop {z} {w} {o} rest e q = ap ended q ∙ sym (ap (λ x. or-else x (first-refusal rest)) (sym e ∙ ap ended q))
 
 -- a stage that passed leaves it to those after it
 pub at-pass : {z : Stage} {o : Option Refusal} (rest : List (Option Refusal)) → ended z ≡ o → z ≡ Passed → first-refusal (o ∷ rest) ≡ first-refusal rest
@@ -22,5 +22,5 @@ pub passed-none : {z : Stage} {o : Option Refusal} → ended z ≡ o → z ≡ P
 passed-none {z} {o} e q = sym e ∙ ap ended q
 
 -- .. and one that stopped
-pub stage-stops : {z : Stage} {w : Refusal} {o : Option Refusal} → ended z ≡ o → z ≡ Stopped w → o ≡ some (why-of z)
-stage-stops {z} {w} {o} e q = sym e ∙ ap ended q ∙ sym (ap (λ y. some (why-of y)) q)
+pub stage-stops : {z : Stage} {w : Refusal} {o : Option Refusal} → ended z ≡ o → z ≡ Stopped w → o ≡ some w
+stage-stops {z} {w} {o} e q = sym e ∙ ap ended q

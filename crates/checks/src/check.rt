@@ -15,7 +15,8 @@ ghost use mathlib.Core.Bool.{not, _||_};
 ghost use lib.Dec.{eqb, ltb};
 ghost use lib.ListN.{length};
 ghost use Rattle.checks.specs.Planning.{asking};
-ghost use Rattle.checks.specs.Stages.{ended, CheckedAs, CellsChecked};
+ghost use Rattle.legal.specs.Judged.{Judged};
+ghost use Rattle.checks.specs.Stages.{ended, CheckedAs};
 
 // 5: not both of this length.
 fn wrong_lengths(cells: usize, rates: usize, distortions: usize) -> bool
@@ -40,7 +41,7 @@ fn too_short(scans: usize, need: usize, plan: usize, scratch: usize) -> bool
 // 7: the legality of every cell.
 fn check_cells(rates: &[u32], distortions: &[u32]) -> Stage
     requires { ⌜ length (now distortions) ≡ length (now rates) ⌝ }
-    ensures { λ r. ⌜ CellsChecked (now (rates .entry)) (now (distortions .entry)) r ⌝ }
+    ensures { λ r. ⌜ Judged (now (rates .entry)) (now (distortions .entry)) (ended r) ⌝ }
 {
     let verdict = judge(rates, distortions);
     let Legality::Illegal(k) = verdict else {
@@ -60,7 +61,7 @@ pub fn check(
     plan: usize,
     scratch: usize,
 ) -> Stage
-    ensures { λ r. ⌜ CheckedAs (ended further) (asking scans settings law (now (rates .entry)) (now (distortions .entry)) plan scratch) r ⌝ }
+    ensures { λ r. ⌜ CheckedAs (ended further) (asking scans settings law (now (rates .entry)) (now (distortions .entry)) plan scratch) (ended r) ⌝ }
 {
     let ranged = ranges(MOST_SCANS, scans, settings, unknown(law));
     let Stage::Passed = ranged else {

@@ -2,21 +2,11 @@
 use tables::refusal::Refusal;
 ghost use mathlib.Core.Path.{_≡_};
 ghost use Rattle.checks.specs.Checks.{«or-else», when};
-ghost use Rattle.checks.specs.Stages.{ended, «why-of»};
+ghost use Rattle.checks.specs.Stages.{ended};
 
 pub enum Stage {
     Passed,
     Stopped(Refusal),
-}
-
-// Why a stage stopped.
-pub fn why(s: Stage) -> Refusal
-    ensures { λ r. ⌜ r ≡ why-of s ⌝ }
-{
-    match s {
-        Stage::Stopped(w) => w,
-        Stage::Passed => Refusal::FileLength,
-    }
 }
 
 // A stage of one test.

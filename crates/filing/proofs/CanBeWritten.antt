@@ -1,12 +1,12 @@
--- Every plan that the planner gives can be written, and what is written reads back. Assumes nothing.
+-- Every average and every minmax plan that is given can be written, and what is written reads back. Assumes nothing.
 use mathlib.Core.Path.{_≡_, refl, ap, _∙_}
-use mathlib.Core.Bool.{Bool, false}
+use mathlib.Core.Bool.{Bool, true, false, cond}
 use mathlib.Core.Option.{Option, none}
 use mathlib.Core.List.{List, [], _∷_, _++_}
 use Prim.Native.Nat.{ℕ, zero, suc, _-_, _^_, _≤_, _<_}
 use native.Mathlib.Nat.{le-refl, mul-le-mul-left}
 use native.Mathlib.Omega.{arith}
-use lib.Dec.{ltb}
+use lib.Dec.{eqb, ltb}
 use lib.ListN.{length, getD, drop, length-append, List·getD-append}
 use borrow.Author.Tests.{le-ltb, lt-ltb, ne-eqb, eq-eqb}
 use Rattle.criteria.specs.Choice.{Problem, AverageFloor}
@@ -65,10 +65,19 @@ d-kept : (d : ℕ) → 1 ≤ d → d ≤ most-term → d-broken 0 d ≡ false
 unfolding d-broken
 d-kept d h g = in-range-kept most-term d h g
 
--- without a multiplier both are 0
-none-kept : (n-broken 1 0 0 ≡ false) × (d-broken 1 0 ≡ false)
-unfolding n-broken d-broken
-none-kept = (refl, refl)
+-- no n of 0 beside a d of 0 is charged to n, whatever the kind
+no-n-kept : (kind : ℕ) → n-broken kind 0 0 ≡ false
+unfolding n-broken zero-or-over
+no-n-kept kind = either (eqb kind 0)
+  where
+    either : (b : Bool) → cond b false false ≡ false
+    either true = refl
+    either false = refl
+
+-- a minmax plan has no d
+no-d-kept : d-broken 1 0 ≡ false
+unfolding d-broken
+no-d-kept = refl
 
 -- a rate within the limit and the budget
 rate-kept : (rate B : ℕ) → rate ≤ most-total → rate ≤ B → rate-broken rate B ≡ false
@@ -237,8 +246,8 @@ module _ {a : Asked} (o : Sound none a) {B : ℕ} {s v : List ℕ} (q : IsMinmax
         law = sound-law o;
         kind = refl;
         run-13 = refl;
-        n = none-kept .0;
-        d = none-kept .1;
+        n = no-n-kept _;
+        d = no-d-kept;
         rate = rw er (rate-kept (problem-of a .rate s) B (rate-limit o s ok) (minmax-fits (problem-of a) (q .plan)));
         distortion = rw eD (le-ltb most-total (problem-of a .distortion s) (distortion-limit o s ok));
         peak = rw (ep, eD) (peak-kept (problem-of a .peak s) (problem-of a .distortion s) (peak-limit o s ok) (peak-below o s ok));

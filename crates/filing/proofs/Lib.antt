@@ -1,2 +1,2 @@
--- Every plan that the planner gives can be written, and reads back.
+-- Every average and every minmax plan that is given can be written, and reads back.
 pub mod CanBeWritten

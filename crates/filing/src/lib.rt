@@ -1,4 +1,4 @@
-// From a plan to its file: the fields of an average and of a minmax plan. Every plan that the planner gives can be written.
+// From a plan to its file: the fields of an average and of a minmax plan. Every such plan that is given can be written.
 use keys::cost::Dist;
 use promise::AveragePlan;
 use promise::MinmaxPlan;

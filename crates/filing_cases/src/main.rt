@@ -1,4 +1,4 @@
-// The average and the minmax plans of table T, and of table U, at each budget that changes them, filed: each line is the number that comes
+// The average and the minmax plans of table T, and of table U, at some budgets, filed: each line is the number that comes
 // back from the planning call (0: a plan), and for a plan the length of its file and every byte of the buffer that the file was written to.
 // What it must write was made by tests/second/filing_vectors.py.
 use filing::average_fields;

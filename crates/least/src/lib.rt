@@ -149,7 +149,7 @@ pub fn pick<'a>(
     ensures { λ r. ⌜ length (now (row .exit)) ≡ 16 ⌝ }
     ensures { λ r. ⌜ BestOf (candidate rule (now (rates .entry)) (now (distortions .entry)) (now (keys .entry))) lo hi (r .key .0) (r .first) ⌝ }
 {
-    // A run that starts at 0 is the common one, and quicker where the compiler knows its start.
+    // A run that starts at 0 is the common one: the compiler knows its start.
     if lo == 0 {
         sums(row, rates, distortions, rule, keys, 0, hi);
         return least(row, 0, hi);

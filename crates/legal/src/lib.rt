@@ -9,7 +9,7 @@ ghost use lib.ListN.{length, getD};
 ghost use lib.Dec.{eqb};
 ghost use Rattle.tables.specs.Limits.{forbidden};
 ghost use Rattle.tables.specs.Legal.{LegalRate, LegalBeside};
-ghost use Rattle.legal.specs.Judged.{Judged};
+ghost use Rattle.legal.specs.Judged.{Judged, «legality-refusal»};
 
 pub enum Legality {
     Legal,
@@ -78,7 +78,7 @@ fn legal_distortions(rates: &[u32], distortions: &[u32], end: usize) -> usize
 // An illegal distortion counts before the first illegal rate alone, so the second walk goes no further than the first did.
 pub fn judge(rates: &[u32], distortions: &[u32]) -> Legality
     requires { ⌜ length (now distortions) ≡ length (now rates) ⌝ }
-    ensures { λ r. ⌜ Judged (now (rates .entry)) (now (distortions .entry)) r ⌝ }
+    ensures { λ r. ⌜ Judged (now (rates .entry)) (now (distortions .entry)) (legality-refusal r) ⌝ }
 {
     let end = legal_rates(rates);
     let lowest = legal_distortions(rates, distortions, end);

@@ -5,7 +5,9 @@ pub mod EntryLaws
 pub mod EnteredLaws
 pub mod PutLaws
 pub mod WalkLaws
+pub mod Answers
 pub mod Back
+pub mod Lent
 pub mod Accepted
 pub mod Both
 pub mod ReadLaws

@@ -24,12 +24,13 @@ use Rattle.checks.specs.Checks.{when, first-from, found, first-refusal}
 use Rattle.entries.specs.Entries.{entry-broken}
 use Rattle.checks.specs.Stages.{ended}
 use Rattle.blocks.specs.Blocks.{length-out}
-use Rattle.planfile.specs.Reading.{reader-checks, broken-field, bad-entry, fields-of, faults-of, field-values, entries, read-refusal, read-of, settings-after}
+use Rattle.planfile.specs.Reading.{reader-checks, bad-entry, fields-of, faults-of, field-values, entries, read-refusal, read-of, settings-after}
 use Rattle.checks.proofs.StageLaws.{passed-none}
 use Rattle.checks.proofs.CheckLaws.{none-when}
-use Rattle.rules.proofs.FieldLaws.{rules-hold, limited}
+use Rattle.rules.proofs.FieldLaws.{limited}
 use Rattle.blocks.proofs.LengthLaws.{right-length, few-blocks, within}
 use Rattle.planfile.proofs.EntryLaws.{length-entries}
+use Rattle.planfile.proofs.Accepted.{passed}
 
 -- the reader's stages, as its checks
 pub all-stages : (file : List ℕ) (room : ℕ) → read-refusal file room ≡ first-refusal (reader-checks file room)
@@ -37,10 +38,10 @@ unfolding read-refusal
 all-stages file room = refl
 
 -- the answer and the settings buffer of a refused file
-pub refused-read : (file settings : List ℕ) (r r′ : Refusal) → r′ ≡ r → read-refusal file (length settings) ≡ some r
-    → (refused r′ ≡ read-of file (length settings)) × (settings ≡ settings-after (read-refusal file (length settings)) file settings)
+pub refused-read : (file settings : List ℕ) (r : Refusal) → read-refusal file (length settings) ≡ some r
+    → (refused r ≡ read-of file (length settings)) × (settings ≡ settings-after (read-refusal file (length settings)) file settings)
 unfolding read-of
-refused-read file settings r r′ q e = (ap refused q ∙ sym (rw e refl), sym (rw e refl))
+refused-read file settings r e = (sym (rw e refl), sym (rw e refl))
 
 -- the answer and the settings buffer of a file that is read
 pub accepted-read : (file settings after : List ℕ) (f : Fields) → f ≡ fields-of file → fields-of file .scans ≤ length settings
@@ -70,17 +71,27 @@ pub sized : {z : Stage} (file : List ℕ) → ended z ≡ when (length-out (leng
     → (1024 ≤ length file) × (length file ≤ 1536)
 sized file e q = two-lengths (length file) (none-when (length-out (length file)) refusal.FileLength (passed-none e q))
 
--- where the header passed, every entry of the plan stands in the file
-pub entries-inside : (file : List ℕ) → broken-field file ≡ none
-    → (fields-of file .scans ≤ 2016) × ((j : ℕ) → j < fields-of file .scans → 512 * (j / 1008 + 2) ≤ length file)
-unfolding broken-field faults-of fields-of number-at
-entries-inside file e =
-    let k = rules-hold (faults-of file) (fields-of file) e in
+-- what a file that is not refused has: block 0, no more settings than are lent, and every entry of the plan
+pub record Inside (file : List ℕ) (room : ℕ) : Type 0 where
+  pub one-block : 512 ≤ length file
+  pub enough : fields-of file .scans ≤ room
+  pub few : fields-of file .scans ≤ 2016
+  pub there : (j : ℕ) → j < fields-of file .scans → 512 * (j / 1008 + 2) ≤ length file
+
+pub inside : (file : List ℕ) (room : ℕ) → read-refusal file room ≡ none → Inside file room
+unfolding faults-of fields-of number-at
+inside file room e =
+    let p = passed file room e in
     let N = fields-of file .scans in
-    let m : N ≤ 1024 = limited (faults-of file) (fields-of file) k .scans in
-    let l : length file ≡ file-length N = right-length (length file) N (neither (scans-out N) (other-length (length file) N) (k .scans) .1) in
+    let m : N ≤ 1024 = limited (faults-of file) (fields-of file) (p .rules) .scans in
+    let l : length file ≡ file-length N = right-length (length file) N (neither (scans-out N) (other-length (length file) N) (p .rules .scans) .1) in
     let w = within N m in
-    (omega (arith, m), λ j h. omega (arith, l, w, few-blocks N, h))
+    record {
+      one-block = omega (arith, l);
+      enough = p .enough;
+      few = omega (arith, m);
+      there = λ j h. omega (arith, l, w, few-blocks N, h);
+    }
 
 -- entries that were checked by fields which are the file's
 pub told-entries : (file : List ℕ) {f : Fields} {o : Option Refusal} → f ≡ fields-of file

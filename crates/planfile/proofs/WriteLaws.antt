@@ -23,7 +23,7 @@ use Rattle.rules.specs.declared.Fields.{Fields}
 use Rattle.blocks.specs.File.{sealed, data-block, data-from, file-of, file-length}
 use Rattle.rules.specs.Rules.{header-rules}
 use Rattle.planfile.specs.Writing.{writer-checks, no-faults, write-short, write-refusal, write-of, file-after}
-use Rattle.checks.proofs.CheckLaws.{none-when}
+use Rattle.checks.proofs.CheckLaws.{none-when, none-else}
 use Rattle.rules.proofs.FieldLaws.{rules-hold}
 use Rattle.planfile.proofs.FieldLaws.{writable, entry-small}
 use Rattle.planfile.proofs.Back.{length-back}
@@ -34,10 +34,10 @@ unfolding write-refusal
 write-stages f settings room = refl
 
 -- the answer and the file buffer of a refused write
-pub refused-write : (f : Fields) (settings file : List ℕ) (r r′ : Refusal) → r′ ≡ r → write-refusal f settings (length file) ≡ some r
-    → (refused r′ ≡ write-of f settings (length file)) × (file ≡ file-after (write-refusal f settings (length file)) f settings file)
+pub refused-write : (f : Fields) (settings file : List ℕ) (r : Refusal) → write-refusal f settings (length file) ≡ some r
+    → (refused r ≡ write-of f settings (length file)) × (file ≡ file-after (write-refusal f settings (length file)) f settings file)
 unfolding write-of
-refused-write f settings file r r′ q e = (ap refused q ∙ sym (rw e refl), sym (rw e refl))
+refused-write f settings file r e = (sym (rw e refl), sym (rw e refl))
 
 -- the answer and the file buffer of a write
 pub accepted-write : (f : Fields) (settings file after : List ℕ) (n : ℕ) → n ≡ file-length (f .scans) → file-length (f .scans) ≤ length file
@@ -62,6 +62,15 @@ pub room-inside : (N settings room : ℕ) → when (write-short N settings room)
 room-inside N settings room e =
     let t = neither (ltb settings N) (ltb room (file-length N)) (none-when (write-short N settings room) refusal.Buffer e) in
     (ltb-false settings N (t .0), ltb-false room (file-length N) (t .1))
+
+-- where nothing is refused, N is in its range and there is room for N settings and for the file
+pub all-inside : (f : Fields) (settings : List ℕ) (room : ℕ) → write-refusal f settings room ≡ none →
+    (f .scans ≤ 1024) × ((f .scans ≤ length settings) × (file-length (f .scans) ≤ room))
+unfolding write-refusal
+all-inside f settings room e =
+    let a = none-else (first-refusal (header-rules no-faults f)) _ e in
+    let b = none-else (when (write-short (f .scans) (length settings) room) refusal.Buffer) _ (a .1) in
+    (scans-inside f (a .0) .1, room-inside (f .scans) (length settings) room (b .0))
 
 -- where nothing is refused, every setting fits half a byte
 pub settings-small : (f : Fields) (settings : List ℕ) (room : ℕ) → write-refusal f settings room ≡ none → (j : ℕ) → j < f .scans → getD settings j 0 < 16

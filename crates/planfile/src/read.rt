@@ -7,7 +7,6 @@ use blocks::sound::blocks;
 use blocks::sound::size;
 use checks::stage::Stage;
 use checks::stage::unless;
-use checks::stage::why;
 use entries::check_file;
 use rules::Fields;
 use tables::refusal::Refusal;
@@ -16,6 +15,7 @@ ghost use Prim.Native.Nat.{ℕ, _+_, _*_, _/_, _≤_, _<_};
 ghost use lib.ListN.{length};
 ghost use lib.Seq.{sets};
 ghost use Rattle.blocks.specs.File.{«entry-at»};
+ghost use Rattle.checks.specs.Stages.{ended};
 ghost use Rattle.planfile.specs.Reading.{entries, «read-of», «read-reply», «read-refusal», «settings-after»};
 
 pub enum ReadAnswer {
@@ -35,33 +35,44 @@ fn hand_over(file: &[u8], settings: &mut [u8], scans: usize)
     }
 }
 
+// The stages in document 01's order, where `room` settings are lent. Each else hands on the refusal of the stage that stopped.
+fn stages(file: &[u8], room: u64) -> Stage
+    ensures { λ r. ⌜ ended r ≡ read-refusal (now (file .entry)) room ⌝ }
+{
+    let sized = size(file);
+    let Stage::Passed = sized else {
+        return sized;
+    };
+    let blocked = blocks(file);
+    let Stage::Passed = blocked else {
+        return blocked;
+    };
+    let f = fields(file);
+    let headed = header(file, f);
+    let Stage::Passed = headed else {
+        return headed;
+    };
+    let roomed = unless(room < f.scans, Refusal::Buffer);
+    let Stage::Passed = roomed else {
+        return roomed;
+    };
+    let entered = check_file(file, f.scans, f.settings, f.law);
+    let Stage::Passed = entered else {
+        return entered;
+    };
+    Stage::Passed
+}
+
 // Reads a plan file of any bytes.
 pub fn read_plan(file: &[u8], settings: &mut [u8]) -> ReadAnswer
     ensures { λ r. ⌜ read-reply r ≡ read-of (now (file .entry)) (length (now (settings .entry))) ⌝ }
     ensures { λ _. ⌜ now (settings .exit) ≡ settings-after (read-refusal (now (file .entry)) (length (now (settings .entry)))) (now (file .entry)) (now (settings .entry)) ⌝ }
 {
-    let sized = size(file);
-    let Stage::Passed = sized else {
-        return ReadAnswer::Refused(why(sized));
+    let staged = stages(file, settings.len() as u64);
+    let Stage::Stopped(refusal) = staged else {
+        let f = fields(file);
+        hand_over(file, settings, f.scans as usize);
+        return ReadAnswer::Read(f);
     };
-    let blocked = blocks(file);
-    let Stage::Passed = blocked else {
-        return ReadAnswer::Refused(why(blocked));
-    };
-    let f = fields(file);
-    let headed = header(file, f);
-    let Stage::Passed = headed else {
-        return ReadAnswer::Refused(why(headed));
-    };
-    let room = settings.len() as u64;
-    let roomed = unless(room < f.scans, Refusal::Buffer);
-    let Stage::Passed = roomed else {
-        return ReadAnswer::Refused(why(roomed));
-    };
-    let entered = check_file(file, f.scans, f.settings, f.law);
-    let Stage::Passed = entered else {
-        return ReadAnswer::Refused(why(entered));
-    };
-    hand_over(file, settings, f.scans as usize);
-    ReadAnswer::Read(f)
+    ReadAnswer::Refused(refusal)
 }

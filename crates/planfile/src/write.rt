@@ -7,7 +7,6 @@ use blocks::sizes::BLOCK;
 use blocks::sizes::ENTRIES;
 use checks::stage::Stage;
 use checks::stage::unless;
-use checks::stage::why;
 use entries::check_settings;
 use rules::Faults;
 use rules::Fields;
@@ -17,6 +16,7 @@ ghost use mathlib.Core.Path.{_≡_};
 ghost use Prim.Native.Nat.{ℕ, suc, _*_, _≤_, _<_};
 ghost use lib.ListN.{length, getD};
 ghost use lib.Seq.{sets};
+ghost use Rattle.checks.specs.Stages.{ended};
 ghost use Rattle.blocks.specs.File.{«data-blocks», «file-length», «file-of»};
 ghost use Rattle.planfile.specs.Writing.{«write-short», «write-of», «write-reply», «write-refusal», «file-after»};
 
@@ -70,10 +70,9 @@ fn put_file(file: &mut [u8], f: Fields, settings: &[u8]) -> u64
     file_length(blocks)
 }
 
-// Writes the file of a plan to the front of the lent buffer.
-pub fn write_plan(f: Fields, settings: &[u8], file: &mut [u8]) -> WriteAnswer
-    ensures { λ r. ⌜ write-reply r ≡ write-of f (now (settings .entry)) (length (now (file .entry))) ⌝ }
-    ensures { λ _. ⌜ now (file .exit) ≡ file-after (write-refusal f (now (settings .entry)) (length (now (file .entry)))) f (now (settings .entry)) (now (file .entry)) ⌝ }
+// The stages in document 01's order, where `room` bytes are lent. Each else hands on the refusal of the stage that stopped.
+fn stages(f: Fields, settings: &[u8], room: u64) -> Stage
+    ensures { λ r. ⌜ ended r ≡ write-refusal f (now (settings .entry)) room ⌝ }
 {
     let none = Faults {
         letters: false,
@@ -84,18 +83,30 @@ pub fn write_plan(f: Fields, settings: &[u8], file: &mut [u8]) -> WriteAnswer
     // Neither of the two needs the other. Their order is that of the answers below.
     let headed = rules(none, f);
     let roomed = unless(
-        too_short(f.scans, settings.len() as u64, file.len() as u64),
+        too_short(f.scans, settings.len() as u64, room),
         Refusal::Buffer,
     );
     let Stage::Passed = headed else {
-        return WriteAnswer::Refused(why(headed));
+        return headed;
     };
     let Stage::Passed = roomed else {
-        return WriteAnswer::Refused(why(roomed));
+        return roomed;
     };
     let entered = check_settings(settings, f.scans as usize, f.settings, f.law);
     let Stage::Passed = entered else {
-        return WriteAnswer::Refused(why(entered));
+        return entered;
     };
-    WriteAnswer::Written(put_file(file, f, settings))
+    Stage::Passed
+}
+
+// Writes the file of a plan to the front of the lent buffer.
+pub fn write_plan(f: Fields, settings: &[u8], file: &mut [u8]) -> WriteAnswer
+    ensures { λ r. ⌜ write-reply r ≡ write-of f (now (settings .entry)) (length (now (file .entry))) ⌝ }
+    ensures { λ _. ⌜ now (file .exit) ≡ file-after (write-refusal f (now (settings .entry)) (length (now (file .entry)))) f (now (settings .entry)) (now (file .entry)) ⌝ }
+{
+    let staged = stages(f, settings, file.len() as u64);
+    let Stage::Stopped(refusal) = staged else {
+        return WriteAnswer::Written(put_file(file, f, settings));
+    };
+    WriteAnswer::Refused(refusal)
 }

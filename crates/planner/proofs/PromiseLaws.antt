@@ -1,9 +1,9 @@
 -- How a call keeps its promise where the checks have passed: one law for each way out. Assumes nothing.
-use mathlib.Core.Path.{_≡_, refl, ap, _∙_}
-use mathlib.Core.List.{List, _++_}
+use mathlib.Core.Path.{_≡_, refl, sym, ap, _∙_}
+use mathlib.Core.Bool.{false}
+use mathlib.Core.List.{List}
 use Prim.Native.Nat.{ℕ}
-use native.Mathlib.Omega.{arith}
-use lib.ListN.{drop, replicate}
+use lib.ListN.{getD}
 use Rattle.tables.specs.Tables.{scratch-need}
 use Rattle.criteria.specs.Choice.{Problem, InBudget, NoneAllowed, NoneWithin}
 use Rattle.tables.specs.declared.refusal.Refusal.{Refusal}
@@ -12,15 +12,16 @@ use Rattle.tables.specs.Refusals.{Reply, refused, answered}
 use Rattle.checks.specs.Planning.{Asked, Sound, problem-of}
 use Rattle.walk.specs.declared.Totals.{Totals}
 use Rattle.trellis.specs.Choices.{chosen}
-use Rattle.walk.specs.Walked.{TotalsOf}
-use Rattle.promise.specs.Promise.{Promise, unsound, no-sequence, none-within, planned, totals, total-values}
-use Rattle.checks.specs.Stages.{CheckedAs}
+use Rattle.walk.specs.Walked.{TotalsOf, total-values}
+use Rattle.promise.specs.Promise.{Promise, unsound, no-sequence, none-within, planned, totals}
+use Rattle.checks.specs.Stages.{ended, CheckedAs}
 use Rattle.checks.specs.declared.stage.Stage.{Stage}
 use Rattle.checks.specs.declared.stage.Stage.the-variants as stage
 use mathlib.Core.Option.{Option}
-use Rattle.seek.specs.Sought.{Framed, Finished, ThriftyTotals}
+use Rattle.seek.specs.Sought.{Framed, Closed, Finished, ThriftyTotals}
 use Rattle.planner.specs.Given.{Delivered}
-use Rattle.seek.specs.Started.{StartedAs, fits, none-allowed, none-fits}
+use Rattle.seek.specs.Started.{StartedAs, start-reply, fits, none-allowed, none-fits}
+use Rattle.tables.proofs.RefusalLaws.{answered-or-refused}
 use Rattle.seek.specs.declared.start.Started.{Started}
 use Rattle.seek.specs.declared.start.Started.the-variants as started
 use Rattle.seek.proofs.SeekLaws.{wiped-same}
@@ -31,39 +32,61 @@ values-are h = rw (h .rate, h .distortion, h .peak)
 
 module _ {further : Option Refusal} {a : Asked} {within : List ℕ → Type 0} {Plan : List ℕ → List ℕ → Type 0} {plan scratch middle scratch′ : List ℕ}
     (sound : Sound further a) (framed : Framed (scratch-need (a .N) (a .Q)) scratch middle) where
-  pub says-none-allowed : scratch′ ≡ replicate (scratch-need (a .N) (a .Q)) 0 ++ drop (scratch-need (a .N) (a .Q)) middle → NoneAllowed (problem-of a) →
-      Promise further a within Plan plan scratch (refused refusal.NoSequence) plan scratch′
-  says-none-allowed w none = no-sequence sound none refl refl (w ∙ wiped-same framed)
+  pub says-none-allowed : {plan′ : List ℕ} → Closed false (a .N) (a .Q) plan middle plan′ scratch′ → NoneAllowed (problem-of a) →
+      Promise further a within Plan plan scratch (refused refusal.NoSequence) plan′ scratch′
+  says-none-allowed c none = no-sequence sound none refl (c .handed) (c .wiped ∙ wiped-same framed)
 
-  pub says-none-within : scratch′ ≡ replicate (scratch-need (a .N) (a .Q)) 0 ++ drop (scratch-need (a .N) (a .Q)) middle → NoneWithin (problem-of a) within →
-      Promise further a within Plan plan scratch (refused refusal.NoneWithin) plan scratch′
-  says-none-within w none = none-within sound none refl refl (w ∙ wiped-same framed)
+  pub says-none-within : {plan′ : List ℕ} → Closed false (a .N) (a .Q) plan middle plan′ scratch′ → NoneWithin (problem-of a) within →
+      Promise further a within Plan plan scratch (refused refusal.NoneWithin) plan′ scratch′
+  says-none-within c none = none-within sound none refl (c .handed) (c .wiped ∙ wiped-same framed)
 
   pub says-planned : {t : Totals} {plan′ v : List ℕ} → Finished (problem-of a) (a .N) (a .Q) plan middle t plan′ scratch′ →
       Plan (chosen (a .Q) (a .N) middle) v → Promise further a within Plan plan scratch (answered v) plan′ scratch′
   says-planned {v = v} f p = planned sound (chosen (a .Q) (a .N) middle) v p refl (f .handed) (f .wiped ∙ wiped-same framed)
 
 -- what the checks answer, at a call's own ways out
-pub checked-sound : {further further′ : Option Refusal} {a : Asked} {z : Stage} → further ≡ further′ → CheckedAs further a z → z ≡ stage.Passed → Sound further′ a
+pub checked-sound : {further further′ : Option Refusal} {a : Asked} {z : Stage} → further ≡ further′ → CheckedAs further a (ended z) → z ≡ stage.Passed → Sound further′ a
 checked-sound f h e = rw (← f) (rw e at h)
 
 pub checked-refused : {further further′ : Option Refusal} {a : Asked} {within : List ℕ → Type 0} {Plan : List ℕ → List ℕ → Type 0} {plan scratch : List ℕ}
-    {z : Stage} {r : Refusal} → further ≡ further′ → CheckedAs further a z → z ≡ stage.Stopped r → Promise further′ a within Plan plan scratch (refused r) plan scratch
+    {z : Stage} {r : Refusal} → further ≡ further′ → CheckedAs further a (ended z) → z ≡ stage.Stopped r → Promise further′ a within Plan plan scratch (refused r) plan scratch
 checked-refused {r = r} f h e = unsound {r = r} (rw (← f) (rw e at h)) refl refl refl
 
 -- how a call with a budget goes on from its start
-pub started-refused : {further : Option Refusal} {a : Asked} {B : ℕ} {Plan : List ℕ → List ℕ → Type 0} {plan scratch scratch′ : List ℕ} {st : Started} {r : Refusal} →
-    Sound further a → StartedAs (problem-of a) (a .N) (a .Q) B scratch scratch′ st → st ≡ started.Refused r →
+refused-start : {further : Option Refusal} {a : Asked} {B : ℕ} {Plan : List ℕ → List ℕ → Type 0} {plan scratch scratch′ : List ℕ} {o : Reply} (r : Refusal) →
+    Sound further a → StartedAs (problem-of a) (a .N) (a .Q) B scratch scratch′ o → o ≡ refused r →
     Promise further a (InBudget (problem-of a) B) Plan plan scratch (refused r) plan scratch′
-started-refused sound (fits t f) e = absurd (let z : _≡_ {A = ℕ} 0 1 = cc in omega arith)
-started-refused {r = r} sound (none-allowed n w) e = let z : r ≡ refusal.NoSequence = cc in no-sequence sound n (ap refused z) refl w
-started-refused {r = r} sound (none-fits n w) e = let z : r ≡ refusal.NoneWithin = cc in none-within sound n (ap refused z) refl w
+refused-start r sound (fits t f) e = absurd (answered-or-refused r e)
+refused-start r sound (none-allowed n w) e = no-sequence sound n (sym e) refl w
+refused-start r sound (none-fits n w) e = none-within sound n (sym e) refl w
 
-pub started-plan : {P : Problem} {N Q B : ℕ} {before after : List ℕ} {st : Started} {t : Totals} → StartedAs P N Q B before after st → st ≡ started.Plan t →
+pub started-refused : {further : Option Refusal} {a : Asked} {B : ℕ} {Plan : List ℕ → List ℕ → Type 0} {plan scratch scratch′ : List ℕ} {st : Started} {r : Refusal} →
+    Sound further a → StartedAs (problem-of a) (a .N) (a .Q) B scratch scratch′ (start-reply st) → st ≡ started.Refused r →
+    Promise further a (InBudget (problem-of a) B) Plan plan scratch (refused r) plan scratch′
+started-refused {r = r} sound h e = refused-start r sound h (ap start-reply e)
+
+-- totals with the same values are those of the same plan
+same-totals : {P : Problem} {B : ℕ} {u t : Totals} → ThriftyTotals P B u → total-values u ≡ total-values t → ThriftyTotals P B t
+same-totals h e = record {
+  plan = h .plan;
+  thriftiest = h .thriftiest;
+  totals = record {
+    rate = sym (ap (λ (l : List ℕ). getD l 0 0) e) ∙ h .totals .rate;
+    distortion = sym (ap (λ (l : List ℕ). getD l 1 0) e) ∙ h .totals .distortion;
+    peak = sym (ap (λ (l : List ℕ). getD l 2 0) e) ∙ h .totals .peak;
+  };
+  fits = h .fits;
+}
+
+plan-start : {P : Problem} {N Q B : ℕ} {before after : List ℕ} {o : Reply} {t : Totals} → StartedAs P N Q B before after o → o ≡ answered (total-values t) →
     ThriftyTotals P B t × Framed (scratch-need N Q) before after
-started-plan {t = t} (fits {t = u} h f) e = let z : u ≡ t = cc in (rw z at h, f)
-started-plan (none-allowed n w) e = absurd (let z : _≡_ {A = ℕ} 0 1 = cc in omega arith)
-started-plan (none-fits n w) e = absurd (let z : _≡_ {A = ℕ} 0 1 = cc in omega arith)
+plan-start (fits h f) e = (same-totals h (ap (λ (x : Reply). x .values) e), f)
+plan-start (none-allowed n w) e = absurd (answered-or-refused refusal.NoSequence (sym e))
+plan-start (none-fits n w) e = absurd (answered-or-refused refusal.NoneWithin (sym e))
+
+pub started-plan : {P : Problem} {N Q B : ℕ} {before after : List ℕ} {st : Started} {t : Totals} → StartedAs P N Q B before after (start-reply st) → st ≡ started.Plan t →
+    ThriftyTotals P B t × Framed (scratch-need N Q) before after
+started-plan h e = plan-start h (ap start-reply e)
 
 pub started-given : {further : Option Refusal} {a : Asked} {within : List ℕ → Type 0} {Plan : List ℕ → List ℕ → Type 0} {plan scratch middle plan′ scratch′ : List ℕ}
     {reply : Reply} → Sound further a → Framed (scratch-need (a .N) (a .Q)) scratch middle → Delivered Plan (a .N) (a .Q) plan middle reply plan′ scratch′ →

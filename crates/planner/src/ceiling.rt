@@ -2,11 +2,11 @@
 use checks::check::check;
 use checks::stage::Stage;
 use promise::PlanAnswer;
+use seek::finish::close;
 use seek::finish::finish;
 use seek::passes::NO_CEILING;
 use seek::passes::thrifty_pass;
 use tables::refusal::Refusal;
-use walk::wipe;
 ghost use mathlib.Core.Option.{none};
 ghost use lib.ListN.{length};
 ghost use Rattle.checks.specs.Planning.{Sound, asking};
@@ -39,7 +39,7 @@ fn sound_ceiling(
         distortions,
         scratch,
     );
-    wipe(scratch, scans, settings);
+    close(false, scans, settings, plan, scratch);
     if any {
         return PlanAnswer::Refused(Refusal::NoneWithin);
     }

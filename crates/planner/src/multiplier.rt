@@ -4,10 +4,10 @@ use checks::range::multiplier_outside;
 use checks::stage::Stage;
 use checks::stage::unless;
 use promise::PlanAnswer;
+use seek::finish::close;
 use seek::finish::finish;
 use seek::passes::multiplier_pass;
 use tables::refusal::Refusal;
-use walk::wipe;
 ghost use lib.ListN.{length};
 ghost use Rattle.checks.specs.Planning.{Sound, «fourth-check», asking};
 ghost use Rattle.promise.specs.Promise.{MultiplierPromise};
@@ -30,7 +30,7 @@ fn sound_multiplier(
     if multiplier_pass(scans, settings, law, n, d, rates, distortions, scratch) {
         return PlanAnswer::Planned(finish(scans, settings, law, rates, distortions, plan, scratch));
     }
-    wipe(scratch, scans, settings);
+    close(false, scans, settings, plan, scratch);
     PlanAnswer::Refused(Refusal::NoSequence)
 }
 

@@ -1,23 +1,25 @@
--- 8 exactly when no sequence is allowed, and 9 exactly when some is and none is within the limit. Assumes nothing.
+-- 8 exactly when no sequence is allowed, and 9 exactly when some is and none is within the limit, so never for a multiplier.
+-- Assumes nothing.
 use mathlib.Core.Path.{_≡_, sym, ap, _∙_}
 use mathlib.Core.Logic.{_↔_}
-use mathlib.Core.Option.{none}
+use mathlib.Core.Option.{Option, none}
 use mathlib.Core.List.{List}
-use Prim.Native.Nat.{ℕ}
+use Prim.Native.Nat.{ℕ, _≤_}
 use native.Mathlib.Omega.{arith}
-use Rattle.criteria.specs.Choice.{Multiplier, NoneAllowed, NoneWithin}
+use Rattle.criteria.specs.Choice.{UnderCeiling, InBudget, NoneAllowed, NoneWithin}
 use Rattle.tables.specs.declared.refusal.Refusal.{Refusal}
 use Rattle.tables.specs.declared.refusal.Refusal.the-variants as refusal
 use Rattle.tables.specs.Refusals.{Reply, refused, numberOf}
 use Rattle.checks.specs.Planning.{Asked, Unsound, early, illegal, Sound, problem-of, fourth-check, multiplier-out}
 use Rattle.tables.proofs.RefusalLaws.{refused-unique, answered-or-refused}
 use Rattle.laws.proofs.Tests.{never}
-use Rattle.promise.specs.Promise.{Promise, unsound, no-sequence, none-within, planned}
+use Rattle.promise.specs.declared.PlanAnswer.{PlanAnswer}
+use Rattle.promise.specs.declared.MinmaxAnswer.{MinmaxAnswer}
+use Rattle.promise.specs.declared.AverageAnswer.{AverageAnswer}
+use Rattle.promise.specs.Promise.{Promise, unsound, no-sequence, none-within, planned, plan-reply, minmax-reply, average-reply, CeilingPromise, MultiplierPromise, MinmaxPromise, AveragePromise}
+use Rattle.promise.proofs.Unique.{ceiling-within, multiplier-within, minmax-within, average-within}
 use Rattle.checks.proofs.PlanningLaws.{sound-or-not, early-gives}
-use mathlib.Core.Option.{Option}
-use Prim.Native.Nat.{_≤_}
 use Rattle.checks.proofs.GiveLaws.{Gives, given, gives-when}
-use mathlib.Core.Option.{Option, none}
 
 -- a refusal of the checks 1 to 7: neither 8 nor 9
 abbrev pub Early : Refusal → Type 0
@@ -73,3 +75,46 @@ module _ {further : Option Refusal} {a : Asked} {within : List ℕ → Type 0} {
       fro (no-sequence o n e f g) h = absurd (n (h .1 .exist .0) (h .1 .exist .1))
       fro (none-within o n e f g) h = e
       fro (planned o t v q e f g) h = absurd (h .1 .none-within t (is-within t v q .1))
+
+-- a reply of number 9, however it is written
+still-nine : {x y : Reply} → x ≡ y → x .number ≡ 9 → y .number ≡ 9
+still-nine e h = sym (ap (λ (x : Reply). x .number) e) ∙ h
+
+-- "9 never there": a multiplier is no limit, so no multiplier call gives 9
+pub multiplier-never-nine : {a : Asked} (n d : ℕ) {plan scratch p s : List ℕ} (r : PlanAnswer) → MultiplierPromise a n d plan scratch r p s →
+    plan-reply r .number ≡ 9 → ⊥
+multiplier-never-nine n d r (unsound u e f g) h = unsound-early (fourth-early n d) u .1 (still-nine e h)
+multiplier-never-nine n d r (no-sequence o w e f g) h = omega (arith, still-nine e h)
+multiplier-never-nine n d r (none-within o w e f g) h = w .none-within (w .exist .0) (w .exist .1)
+multiplier-never-nine n d r (planned o t v q e f g) h = omega (arith, still-nine e h)
+
+-- 8 exactly when no sequence is allowed, of a multiplier call
+pub multiplier-eight-exactly : {a : Asked} (n d : ℕ) {plan scratch p s : List ℕ} (r : PlanAnswer) → MultiplierPromise a n d plan scratch r p s →
+    (plan-reply r ≡ refused refusal.NoSequence) ↔ (Sound (fourth-check n d) a × NoneAllowed (problem-of a))
+multiplier-eight-exactly {a} n d r h = eight-exactly (fourth-early n d) (multiplier-within (problem-of a) n d) h
+
+-- .. and both of the calls with a limit
+pub record SaysExactly (a : Asked) (within : List ℕ → Type 0) (reply : Reply) : Type 0 where
+  pub eight : (reply ≡ refused refusal.NoSequence) ↔ (Sound none a × NoneAllowed (problem-of a))
+  pub nine : (reply ≡ refused refusal.NoneWithin) ↔ (Sound none a × NoneWithin (problem-of a) within)
+
+pub ceiling-exactly : {a : Asked} (X : ℕ) {plan scratch p s : List ℕ} (r : PlanAnswer) → CeilingPromise a X plan scratch r p s →
+    SaysExactly a (UnderCeiling (problem-of a) X) (plan-reply r)
+ceiling-exactly {a} X r h = record {
+  eight = eight-exactly none-early (ceiling-within (problem-of a) X) h;
+  nine = nine-exactly none-early (ceiling-within (problem-of a) X) h;
+}
+
+pub minmax-exactly : {a : Asked} (B : ℕ) {plan scratch p s : List ℕ} (r : MinmaxAnswer) → MinmaxPromise a B plan scratch r p s →
+    SaysExactly a (InBudget (problem-of a) B) (minmax-reply r)
+minmax-exactly {a} B r h = record {
+  eight = eight-exactly none-early (minmax-within (problem-of a) B) h;
+  nine = nine-exactly none-early (minmax-within (problem-of a) B) h;
+}
+
+pub average-exactly : {a : Asked} (B : ℕ) {plan scratch p s : List ℕ} (r : AverageAnswer) → AveragePromise a B plan scratch r p s →
+    SaysExactly a (InBudget (problem-of a) B) (average-reply r)
+average-exactly {a} B r h = record {
+  eight = eight-exactly none-early (average-within (problem-of a) B) h;
+  nine = nine-exactly none-early (average-within (problem-of a) B) h;
+}

@@ -2,4 +2,5 @@
 pub mod Unique
 pub mod Exactly
 pub mod Demands
+pub mod Sizes
 pub mod Hidden

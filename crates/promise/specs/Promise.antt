@@ -17,7 +17,7 @@ use Rattle.promise.specs.declared.MinmaxAnswer.{MinmaxAnswer}
 use Rattle.promise.specs.declared.MinmaxAnswer.the-variants as minmax-answer
 use Rattle.promise.specs.declared.AverageAnswer.{AverageAnswer}
 use Rattle.promise.specs.declared.AverageAnswer.the-variants as average-answer
-use Rattle.walk.specs.declared.Totals.{Totals}
+use Rattle.walk.specs.Walked.{total-values}
 
 -- "the first N × Q scratch bytes are zero", "extra bytes never change"
 abbrev pub wiped : Asked → List ℕ → List ℕ
@@ -68,9 +68,6 @@ pub record IsAveragePlan (P : Problem) (B : ℕ) (s v : List ℕ) : Type 0 where
   pub values : v ≡ n ∷ d ∷ P .rate s ∷ P .distortion s ∷ P .peak s ∷ floor ∷ []
 
 -- The number and the values of each call's answer, in the order of the C surface.
-abbrev pub total-values : Totals → List ℕ
-total-values t = t .rate .0 ∷ t .distortion .0 ∷ t .peak ∷ []
-
 abbrev pub plan-reply : PlanAnswer → Reply
 plan-reply (plan-answer.Planned t) = answered (total-values t)
 plan-reply (plan-answer.Refused r) = refused r

@@ -3,7 +3,6 @@ use checks::range::outside;
 use checks::stage::Stage;
 use checks::stage::then;
 use checks::stage::unless;
-use checks::stage::why;
 use tables::cells::count;
 use tables::cells::scratch_need;
 use tables::limits::MOST_CHANNELS;
@@ -44,13 +43,13 @@ pub fn room_for(channels: u64, scans: u64, settings: u64) -> RoomAnswer
     let first = unless(outside(MOST_CHANNELS, channels), Refusal::Channels);
     let second = then(first, outside(MOST_SCANS, scans), Refusal::Scans);
     let third = then(second, outside(MOST_SETTINGS, settings), Refusal::Settings);
-    let Stage::Passed = third else {
-        return RoomAnswer::Refused(why(third));
+    let Stage::Stopped(refusal) = third else {
+        let cells = count(scans, settings);
+        return RoomAnswer::Given(Room {
+            cells,
+            bytes: table_bytes(channels, cells),
+            scratch: scratch_need(scans, settings),
+        });
     };
-    let cells = count(scans, settings);
-    RoomAnswer::Given(Room {
-        cells,
-        bytes: table_bytes(channels, cells),
-        scratch: scratch_need(scans, settings),
-    })
+    RoomAnswer::Refused(refusal)
 }

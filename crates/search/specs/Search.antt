@@ -3,6 +3,7 @@ use mathlib.Core.Path.{_≡_}
 use mathlib.Core.Bool.{Bool, true, false}
 use mathlib.Core.List.{List}
 use Prim.Native.Nat.{ℕ, _+_, _≤_, _<_}
+use Rattle.tables.specs.Limits.{most-term}
 use Rattle.tables.specs.Tables.{scratch-need}
 use Rattle.criteria.specs.Choice.{Problem, UnderCeiling, Multiplier}
 use Rattle.criteria.specs.Found.{Origin, Ended}
@@ -10,7 +11,6 @@ use Rattle.trellis.specs.Choices.{chosen}
 use Rattle.walk.specs.Walked.{TotalsOf}
 use Rattle.walk.specs.declared.Totals.{Totals}
 use mathlib.Core.Logic.{_⊎_}
-use Prim.Native.Nat.{ℕ, _≤_, _<_}
 use Rattle.search.specs.declared.slopes.Bracket.{Bracket}
 use Rattle.seek.specs.Sought.{Framed}
 
@@ -44,16 +44,16 @@ pub record Bracketed (P : Problem) (B : ℕ) (lo hi : Totals) : Type 0 where
   pub hi-origin : Multiplier P hi-n hi-d hi-plan
   pub over : B < P .rate hi-plan
 
--- n/d is the slope from hi to lo, within the multiplier limits
+-- n/d is the slope from hi to lo
 pub record SlopeOf (lo hi : Totals) (n d : ℕ) : Type 0 where
   pub fall : lo .distortion .0 ≡ hi .distortion .0 + n
   pub rise : hi .rate .0 ≡ lo .rate .0 + d
 
--- where the slopes end: the plan at n/d fits B and ties with one over B
+-- where the slopes end: the plan at n/d fits B, and n is zero or the plan ties with one over B; n and d are within the multiplier limits
 pub record SlopeEnd (P : Problem) (N Q B n d : ℕ) (before after : List ℕ) : Type 0 where
   pub ended : Ended P B n d (chosen Q N after)
-  pub small-n : n ≤ 1073741823
-  pub small-d : d ≤ 1073741823
+  pub small-n : n ≤ most-term
+  pub small-d : d ≤ most-term
   pub framed : Framed (scratch-need N Q) before after
 
 -- the plan takes the place of the one on its side of the budget

@@ -2,7 +2,6 @@
 use keys::cost::Ratio;
 use keys::cost::cost;
 use seek::passes::multiplier_pass;
-use seek::start::start;
 use walk::Totals;
 use walk::total_up;
 ghost use mathlib.Core.Path.{_≡_};

@@ -1,6 +1,6 @@
 -- What the parts of a search leave each other. No promise cites it. Assumes nothing.
 use mathlib.Core.Path.{_≡_}
-use mathlib.Core.Bool.{Bool, true, false}
+use mathlib.Core.Bool.{Bool, true, false, cond}
 use mathlib.Core.List.{List, _++_}
 use Prim.Native.Nat.{ℕ, _≤_}
 use lib.ListN.{length, getD, drop, replicate}
@@ -31,6 +31,11 @@ pub record MultiplierPass (P : Problem) (N Q n d : ℕ) (before after : List ℕ
   pub none : found ≡ false → NoneAllowed P
   pub some : found ≡ true → Multiplier P n d (chosen Q N after)
   pub framed : Framed (scratch-need N Q) before after
+
+-- the end of a call: the chosen sequence is handed over if one was found, and scratch is wiped
+pub record Closed (found : Bool) (N Q : ℕ) (plan scratch plan′ scratch′ : List ℕ) : Type 0 where
+  pub handed : plan′ ≡ cond found (chosen Q N scratch ++ drop N plan) plan
+  pub wiped : scratch′ ≡ replicate (scratch-need N Q) 0 ++ drop (scratch-need N Q) scratch
 
 -- the chosen sequence is handed over
 pub record Finished (P : Problem) (N Q : ℕ) (plan scratch : List ℕ) (t : Totals) (plan′ scratch′ : List ℕ) : Type 0 where

@@ -1,4 +1,4 @@
-// The two passes that the planning calls are made of, how a call with a budget starts, and how a call that succeeds ends.
+// The two passes that the planning calls are made of, how a call with a budget starts, and how a call ends.
 pub mod finish;
 pub mod passes;
 pub mod start;

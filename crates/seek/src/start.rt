@@ -9,7 +9,7 @@ ghost use Prim.Native.Nat.{_<_};
 ghost use lib.ListN.{length};
 ghost use Rattle.tables.specs.Tables.{table, planning};
 ghost use Rattle.checks.specs.Fit.{Fit};
-ghost use Rattle.seek.specs.Started.{StartedAs};
+ghost use Rattle.seek.specs.Started.{StartedAs, «start-reply»};
 
 // How a call with a budget starts: the totals of the least-rate plan, which fits, or a refusal with scratch wiped.
 pub enum Started {
@@ -27,7 +27,7 @@ pub fn start(
     scratch: &mut [u8],
 ) -> Started
     requires { ⌜ Fit scans settings (now rates) (now distortions) (length (now scratch)) ⌝ }
-    ensures { λ r. ⌜ StartedAs (planning (table scans settings law (now (rates .entry)) (now (distortions .entry)))) scans settings budget (now (scratch .entry)) (now (scratch .exit)) r ⌝ }
+    ensures { λ r. ⌜ StartedAs (planning (table scans settings law (now (rates .entry)) (now (distortions .entry)))) scans settings budget (now (scratch .entry)) (now (scratch .exit)) (start-reply r) ⌝ }
 {
     if !thrifty_pass(
         scans,

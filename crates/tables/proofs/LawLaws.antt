@@ -89,6 +89,13 @@ no-law (suc (suc k)) p q h g = ((λ e. never cc), (λ w. absurd w))
 pub any-run : (p k : ℕ) → SideBySide any-step p k 0 k
 any-run p k = record { order = omega arith; inside = omega arith; reached = λ q h l. (omega arith, h); allowed = λ q f t. tt }
 
+-- .. and there is no other
+pub any-all : {p k from to : ℕ} → 1 ≤ k → SideBySide any-step p k from to → (from ≡ 0) × (to ≡ k)
+any-all {k = k} h s =
+    let low = s .reached 0 h tt .0 in
+    let high = s .reached (k - 1) (omega arith) tt .1 in
+    (omega (arith, low), omega (arith, high, s .inside))
+
 pub within-two-run : (p k : ℕ) → p < k → SideBySide within-two p k (p - 2) (min (p + 3) k)
 within-two-run p k h = record {
   order = omega arith;

@@ -5,6 +5,9 @@ ghost use Prim.Native.Nat.{_-_, _≤_, _<_, min};
 ghost use Rattle.tables.specs.Limits.{«most-settings»};
 ghost use Rattle.tables.specs.Law.{«law-of», allows, «law-out», SideBySide};
 
+// The law under which every setting may follow.
+pub const ANY_STEP: u64 = 0;
+
 // Is this no law's number?
 pub fn unknown(law: u64) -> bool
     ensures { λ r. ⌜ r ≡ law-out law ⌝ }
@@ -52,8 +55,7 @@ fn lesser(x: usize, y: usize) -> usize
     if x < y { x } else { y }
 }
 
-// All settings, where no law is asked.
-pub fn all(settings: usize) -> Span
+fn all(settings: usize) -> Span
     ensures { λ r. ⌜ (r .from ≡ 0) × (r .to ≡ settings) ⌝ }
 {
     Span {

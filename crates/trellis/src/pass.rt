@@ -5,7 +5,7 @@ use crate::square::square_into;
 use least::NO_WAY;
 use least::Rule;
 use least::pick;
-use tables::law::all;
+use tables::law::ANY_STEP;
 use tables::law::run;
 ghost use mathlib.Core.Path.{_≡_};
 ghost use mathlib.Core.List.{[]};
@@ -93,8 +93,8 @@ pub fn pass(
     let mut first_distortions = [0u32; 16];
     row_into(&mut first_rates, rates, 0, settings);
     row_into(&mut first_distortions, distortions, 0, settings);
-    // Nothing stands before scan 0: every setting may stand there.
-    let span = all(settings);
+    // Nothing stands before scan 0, so no law is asked there.
+    let span = run(ANY_STEP, 0, settings);
     let best = pick(
         &mut row,
         &first_rates,

@@ -5,7 +5,7 @@ ghost use Prim.Native.Nat.{ℕ, _+_, _*_, _≤_, _<_};
 ghost use lib.ListN.{getD, length};
 ghost use Rattle.trellis.specs.Square.{Sixteen};
 
-// A row of k cells from `from` on. Where the table goes on so far, sixteen are copied: a copy of known length is quicker.
+// A row of k cells from `from` on. Where the table goes on so far, sixteen are copied: a copy whose length the compiler knows.
 pub fn row_into(row: &mut [u32; 16], cells: &[u32], from: usize, k: usize)
     requires { ⌜ (k ≤ 16) × ((from + k ≤ length (now cells)) × (length (now row) ≡ 16)) ⌝ }
     ensures { λ _. ⌜ length (now (row .exit)) ≡ 16 ⌝ }

@@ -41,16 +41,19 @@ fn larger(a: u64, b: u64) -> u64
     if a < b { b } else { a }
 }
 
-// A sequence with one more scan.
-fn with_scan(t: Totals, rate: Rate, distortion: Dist) -> Totals
-    requires { ⌜ (t .rate .0 + rate .0 < 2 ^ 64) × (t .distortion .0 + distortion .0 < 2 ^ 64) ⌝ }
-    ensures { λ r. ⌜ (r .rate .0 ≡ t .rate .0 + rate .0) × ((r .distortion .0 ≡ t .distortion .0 + distortion .0) × (r .peak ≡ max (t .peak) (distortion .0))) ⌝ }
+// Rates are added to rates, and distortions to distortions: the two meet in a cost alone.
+fn more_rate(a: Rate, b: Rate) -> Rate
+    requires { ⌜ a .0 + b .0 < 2 ^ 64 ⌝ }
+    ensures { λ r. ⌜ r .0 ≡ a .0 + b .0 ⌝ }
 {
-    Totals {
-        rate: Rate(t.rate.0 + rate.0),
-        distortion: Dist(t.distortion.0 + distortion.0),
-        peak: larger(t.peak, distortion.0),
-    }
+    Rate(a.0 + b.0)
+}
+
+fn more_distortion(a: Dist, b: Dist) -> Dist
+    requires { ⌜ a .0 + b .0 < 2 ^ 64 ⌝ }
+    ensures { λ r. ⌜ r .0 ≡ a .0 + b .0 ⌝ }
+{
+    Dist(a.0 + b.0)
 }
 
 // The totals of the chosen sequence, which is allowed.
@@ -75,7 +78,13 @@ pub fn total_up(
     for i in 0..scans {
         let q = read(scratch, settings, i, p);
         let at = number(settings as u64, i as u64, p as u64, q as u64) as usize;
-        t = with_scan(t, rate_of(rates[at]), distortion_of(distortions[at]));
+        let rate = more_rate(t.rate, rate_of(rates[at]));
+        let cell = distortion_of(distortions[at]);
+        t = Totals {
+            rate,
+            distortion: more_distortion(t.distortion, cell),
+            peak: larger(t.peak, cell.0),
+        };
         p = q;
     }
     t

@@ -62,7 +62,7 @@ head-settles n (head.Cells k) f = rw (f .in-range) at (by-range n) ∙ not-large
 abbrev left-requested : List ℕ → State → Request
 left-requested n s = cond (s .more) bad-input (rest-requested n (as-words (drop 4 (taken-of n s)) ++ []))
 
-module _ (n : List ℕ) (s : State) (len : length n ≡ 8196) where
+module _ (n : List ℕ) (s : State) (len : 8196 ≤ length n) where
   pub few-requested : s .taken < 4 → Requests n s bad-input
   few-requested h text fed = by-more (s .more) refl
     where

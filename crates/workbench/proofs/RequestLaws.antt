@@ -103,7 +103,7 @@ bad-unless true a f = f refl
 bad-unless false a f = refl
 
 -- a word that is no number, or one beyond those of the largest table
-pub rest-stopped : (n m : List ℕ) (word : Option ℕ) (later : List (Option ℕ)) → (word ≡ none) ⊎ (length m ≡ 8192) →
+pub rest-stopped : (n m : List ℕ) (word : Option ℕ) (later : List (Option ℕ)) → (word ≡ none) ⊎ (8192 ≤ length m) →
     cells (getD n 0 0) (getD n 1 0) ≤ most-cells → rest-requested n (as-words m ++ word ∷ later) ≡ bad-input
 rest-stopped n m word later (inl e) h =
     bad-unless _ _
@@ -143,22 +143,22 @@ rest-cells n m e =
 abbrev pub stop-requested : List ℕ → ℕ → Request
 stop-requested n t = cond (ltb t 4) bad-input (settled n bad-input)
 
-stop-four : (n : List ℕ) (t : ℕ) (word : Option ℕ) (later : List (Option ℕ)) → length n ≡ 8196 → t ≤ length n → (word ≡ none) ⊎ (t ≡ length n) →
+stop-four : (n : List ℕ) (t : ℕ) (word : Option ℕ) (later : List (Option ℕ)) → 8196 ≤ length n → t ≤ length n → (word ≡ none) ⊎ (t ≡ length n) →
     4 ≤ t → request-of (as-words (take t n) ++ word ∷ later) ≡ settled n bad-input
 stop-four n t word later len h w g =
     four-given n t (word ∷ later) g h
     ∙ settled-same n _ bad-input (rest-stopped n (drop 4 (take t n)) word later (beyond w))
   where
-    beyond : (word ≡ none) ⊎ (t ≡ length n) → (word ≡ none) ⊎ (length (drop 4 (take t n)) ≡ 8192)
+    beyond : (word ≡ none) ⊎ (t ≡ length n) → (word ≡ none) ⊎ (8192 ≤ length (drop 4 (take t n)))
     beyond (inl e) = inl e
     beyond (inr e) = inr (omega (arith, length-drop 4 (take t n), length-take t n))
 
-stop-barred : (n : List ℕ) (t : ℕ) (word : Option ℕ) (later : List (Option ℕ)) → length n ≡ 8196 → (word ≡ none) ⊎ (t ≡ length n) → t < 4 →
+stop-barred : (n : List ℕ) (t : ℕ) (word : Option ℕ) (later : List (Option ℕ)) → 8196 ≤ length n → (word ≡ none) ⊎ (t ≡ length n) → t < 4 →
     Barred (word ∷ later)
 stop-barred n t word later len (inl e) g = λ j. rw e
 stop-barred n t word later len (inr e) g = absurd (omega arith)
 
-stop-words : (n : List ℕ) (t : ℕ) (word : Option ℕ) (later : List (Option ℕ)) → length n ≡ 8196 → t ≤ length n → (word ≡ none) ⊎ (t ≡ length n) →
+stop-words : (n : List ℕ) (t : ℕ) (word : Option ℕ) (later : List (Option ℕ)) → 8196 ≤ length n → t ≤ length n → (word ≡ none) ⊎ (t ≡ length n) →
     request-of (as-words (take t n) ++ word ∷ later) ≡ stop-requested n t
 stop-words n t word later len h w = by-few (ltb t 4) refl
   where
@@ -167,7 +167,7 @@ stop-words n t word later len h w = by-few (ltb t 4) refl
     by-few false e = stop-four n t word later len h w (ltb-false t 4 e)
 
 -- whatever follows, the same is asked
-pub enough-decides : (n : List ℕ) (s : State) → length n ≡ 8196 → (s .more || (leb 4 (s .taken) && settles n)) ≡ true → Decided n s
+pub enough-decides : (n : List ℕ) (s : State) → 8196 ≤ length n → (s .more || (leb 4 (s .taken) && settles n)) ≡ true → Decided n s
 enough-decides n s len e text (so-far w m t sh f) rest =
     let q = both-hold _ _ (rw m at e) in
     let four : 4 ≤ s .taken = leb-true 4 (s .taken) (q .0) in
@@ -226,7 +226,7 @@ all-taken text n s (so-far w m t sh f) e =
     (t, here ∙ ap (λ (c : List (Option ℕ)). l ++ c) (nothing-closed w (omega (arith, one-word w))))
 
 -- where it was ended and a word was not taken
-pub not-taken : (text n : List ℕ) (s : State) → length n ≡ 8196 → Fed (text ++ (32 ∷ [])) n s → s .more ≡ true →
+pub not-taken : (text n : List ℕ) (s : State) → 8196 ≤ length n → Fed (text ++ (32 ∷ [])) n s → s .more ≡ true →
     request text ≡ stop-requested n (s .taken)
 not-taken text n s len (so-far w m t sh f) e = never (cc)
 not-taken text n s len (stopped word m t wh f) e =

@@ -2,7 +2,6 @@
 use bytes::cast::cell_to_number;
 use checks::range::ranges;
 use checks::stage::Stage;
-use checks::stage::why;
 use reading::State;
 use tables::cells::count;
 use tables::law::unknown;
@@ -35,26 +34,26 @@ pub enum Verdict {
 
 // The checks of N, Q and law in their order, and then the size.
 pub fn first_four(numbers: &[u32]) -> Head
-    requires { ⌜ length (now numbers) ≡ 8196 ⌝ }
+    requires { ⌜ 8196 ≤ length (now numbers) ⌝ }
     ensures { λ r. ⌜ Heads (now (numbers .entry)) r ⌝ }
 {
     let scans = cell_to_number(numbers[0]);
     let settings = cell_to_number(numbers[1]);
     let law = cell_to_number(numbers[2]);
     let ranged = ranges(MOST_SCANS, scans, settings, unknown(law));
-    let Stage::Passed = ranged else {
-        return Head::Refused(why(ranged));
+    let Stage::Stopped(refusal) = ranged else {
+        let cells = count(scans, settings);
+        if MOST_CELLS < cells {
+            return Head::TooLarge;
+        }
+        return Head::Cells(cells as usize);
     };
-    let cells = count(scans, settings);
-    if MOST_CELLS < cells {
-        return Head::TooLarge;
-    }
-    Head::Cells(cells as usize)
+    Head::Refused(refusal)
 }
 
 // Of a text that a separator has ended: the first four numbers, if there are so many, and then whether the rest are the cells.
 pub fn judge(s: State, numbers: &[u32]) -> Verdict
-    requires { ⌜ length (now numbers) ≡ 8196 ⌝ }
+    requires { ⌜ 8196 ≤ length (now numbers) ⌝ }
     ensures { λ r. ⌜ VerdictOf (now (numbers .entry)) s r ⌝ }
 {
     if s.taken < 4 {

@@ -16,10 +16,10 @@ ghost use lib.Dec.{leb};
 ghost use lib.ListN.{length, take};
 ghost use Rattle.workbench.specs.Done.{settles, Decided, Answers};
 
-// Nothing that may follow changes what is asked: a word is no number or one too many, or N, Q or law is out of range, or the table is too
-// large. Then no more is read.
+// Has enough been read? A word that has ended was not taken, or N, Q or law is out of range, or the table is too large: nothing that may
+// follow changes what is asked then, and no more is read.
 pub fn enough(s: State, numbers: &[u32]) -> bool
-    requires { ⌜ length (now numbers) ≡ 8196 ⌝ }
+    requires { ⌜ 8196 ≤ length (now numbers) ⌝ }
     ensures { λ r. ⌜ r ≡ (s .more || (leb 4 (s .taken) && settles (now (numbers .entry)))) ⌝ }
     ensures { λ r. ⌜ (r ≡ true → Decided (now (numbers .entry)) s) ⌝ }
 {
@@ -39,7 +39,7 @@ pub fn enough(s: State, numbers: &[u32]) -> bool
 
 // Writes the lines for the text that was read, and answers their length. A separator closes the last word as the end of the text does.
 pub fn answer(s: State, numbers: &mut [u32], out: &mut [u8]) -> usize
-    requires { ⌜ length (now numbers) ≡ 8196 ⌝ }
+    requires { ⌜ 8196 ≤ length (now numbers) ⌝ }
     requires { ⌜ 8704 ≤ length (now out) ⌝ }
     ensures { λ r. ⌜ (r ≤ length (now (out .exit))) × Answers (now (numbers .entry)) s (take r (now (out .exit))) ⌝ }
 {

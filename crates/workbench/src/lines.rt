@@ -7,7 +7,6 @@ use printing::line::average_said;
 use printing::line::minmax_said;
 use printing::line::put_line;
 use tables::refusal::Refusal;
-ghost use mathlib.Core.Path.{_≡_};
 ghost use Prim.Native.Nat.{_+_, _≤_};
 ghost use lib.ListN.{length};
 ghost use Rattle.workbench.specs.Request.{«out-of-range»};
@@ -76,7 +75,7 @@ fn minmax_at(
 
 // Both lines of a table that is planned: the first four numbers, and the cells of each table after them.
 pub fn planned(numbers: &[u32], cells: usize, out: &mut [u8]) -> usize
-    requires { ⌜ (length (now numbers) ≡ 8196) × Planable (now numbers) cells ⌝ }
+    requires { ⌜ (8196 ≤ length (now numbers)) × Planable (now numbers) cells ⌝ }
     requires { ⌜ 8704 ≤ length (now out) ⌝ }
     ensures { λ r. ⌜ Holds (plan-requested (now (numbers .entry)) cells) r (now (out .exit)) ⌝ }
 {

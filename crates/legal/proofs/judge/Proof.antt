@@ -1,5 +1,6 @@
 -- `legal::judge` meets its contract, by what the two walks know. Assumes nothing.
 use denote.Ref.{now}
+use Rattle.legal.specs.Judged.{all-legal, not-legal}
 use Rattle.legal.proofs.LegalLaws.{TwoWalks, walked-lowest, walked-all}
 use borrow.Author.Needs.{needs}
 use Rattle.legal.proofs.judge.Statement.{statement}
@@ -24,10 +25,10 @@ legal-distortions-requires : tie.Need-legal-distortions-requires
 legal-distortions-requires c κs = search needs
 
 returns : tie.Need-returns
-returns c = walked-lowest _ _ (walked (c .before)) (c .if1 .taken)
+returns c = not-legal (walked-lowest _ _ (walked (c .before)) (c .if1 .taken))
 
 returns-2 : tie.Need-returns-2
-returns-2 c = walked-all _ _ (walked (c .before)) (c .if1 .left)
+returns-2 c = all-legal (walked-all _ _ (walked (c .before)) (c .if1 .left))
 
 pub judge-spec : {M : Type 1} → statement M
 judge-spec = tie.close (tie.spec legal-rates-requires legal-distortions-requires returns returns-2)

@@ -1,12 +1,11 @@
 -- `room::room_for` meets its contract: the checks in their order, and products that do not wrap. Assumes nothing.
-use mathlib.Core.Path.{_≡_, refl, ap, _∙_}
+use mathlib.Core.Path.{_≡_, refl}
 use mathlib.Core.Option.{none}
 use mathlib.Core.List.{[]}
 use native.Mathlib.Omega.{arith}
 use lib.ListN.{take}
 use borrow.Author.Needs.{needs}
 use Rattle.tables.specs.declared.refusal.Refusal.the-variants as refusal
-use Rattle.tables.specs.Refusals.{refused}
 use Rattle.tables.proofs.CellLaws.{cells-small, bytes-small}
 use Rattle.checks.specs.Checks.{first-refusal}
 use Rattle.checks.specs.Stages.{ended}
@@ -54,17 +53,11 @@ outside-requires-3 c κs = search needs
 then-requires-2 : tie.Need-then-requires-2
 then-requires-2 c κs = search needs
 
+enum-known-third : tie.Need-enum-known-third
+enum-known-third c = search needs
+
 enum-told : tie.Need-enum-told
 enum-told c = search needs
-
-enum-told-2 : tie.Need-enum-told-2
-enum-told-2 c = search needs
-
-why-requires : tie.Need-why-requires
-why-requires c κs = search needs
-
-returns : tie.Need-returns
-returns c = ap refused (c .why .ensures) ∙ refuses-room _ _ _ (stage-stops (asked (c .before .before .before)) (c .before .enum-told2 .given .1))
 
 count-requires : tie.Need-count-requires
 count-requires c κs = let r = room-ranges _ _ _ (passed c) .1 in (r .0 .0, (r .0 .1, r .1 .1))
@@ -77,9 +70,12 @@ table-bytes-requires c κs =
 scratch-need-requires : tie.Need-scratch-need-requires
 scratch-need-requires c κs = let r = room-ranges _ _ _ (passed (c .before .before)) .1 in (r .0 .1, r .1 .1)
 
-returns-2 : tie.Need-returns-2
-returns-2 c =
+returns : tie.Need-returns
+returns c =
     rw (c .before .table-bytes .ensures, c .before .before .count .ensures, c .scratch-need .ensures .0) (gives-room _ _ _ (passed (c .before .before .before)))
+
+returns-2 : tie.Need-returns-2
+returns-2 c = refuses-room _ _ _ (stage-stops (asked (c .before .before .before)) (c .before .third .given .1))
 
 pub room-for-spec : {M : Type 1} → statement M
 room-for-spec =
@@ -91,11 +87,10 @@ room-for-spec =
     then-requires
     outside-requires-3
     then-requires-2
+    enum-known-third
     enum-told
-    enum-told-2
-    why-requires
-    returns
     count-requires
     table-bytes-requires
     scratch-need-requires
+    returns
     returns-2)

@@ -2,7 +2,7 @@
 -- rest of the sequence. Assumes nothing.
 use mathlib.Core.Path.{_≡_, refl, _∙_}
 use mathlib.Core.List.{_∷_}
-use Prim.Native.Nat.{suc, _-_, _≤_, _<_}
+use Prim.Native.Nat.{suc, _+_, _-_, _≤_, _<_, _^_}
 use native.Mathlib.Numerals.{add-one}
 use native.Mathlib.Omega.{arith}
 use lib.ListN.{length, getD}
@@ -81,31 +81,53 @@ shared-slice-read-rate-of c = inside (c .before) .0
 rate-of-requires : tie.Need-rate-of-requires Inv-loop μ-loop
 rate-of-requires c κs = search needs
 
+-- what is read is the scan's rate
+rate-read : (c : tie.After-rate-of Inv-loop μ-loop) →
+    let a = c .before .before .before .before .before .before .before .before .before .args in
+    let l = c .before .before .before .before .before .loop in
+    c .rate-of .result .0 ≡ getD (a .rates .now) (cell (a .settings) (l .i) (l .p) (choice (a .settings) (a .scratch .now) (l .i) (l .p))) 0
+rate-read c =
+    let e = rw (c .before .before .before .read .ensures .0) at (c .before .before .number .ensures) in
+    c .rate-of .ensures ∙ rw e
+
+-- the sums with the scan at i are small
+sums-small : (c : tie.In-loop Inv-loop μ-loop) →
+    let a = c .before .before .before .before .before .args in
+    let l = c .before .loop in
+    let k = cell (a .settings) (l .i) (l .p) (choice (a .settings) (a .scratch .now) (l .i) (l .p)) in
+    (l .t .rate .0 + getD (a .rates .now) k 0 < 2 ^ 64) × (l .t .distortion .0 + getD (a .distortions .now) k 0 < 2 ^ 64)
+sums-small c =
+    let s = c .before .before .before .before .before in
+    let T = table (s .args .scans) (s .args .settings) (s .args .law) (s .args .rates .now) (s .args .distortions .now) in
+    let h = along-small (table-small T (fit-legal {t = T} (s .pre .0))) (s .pre .1) (left-at c) in
+    (omega (arith, h .0), omega (arith, h .1))
+
+more-rate-requires : tie.Need-more-rate-requires Inv-loop μ-loop
+more-rate-requires c κs = rw (rate-read c) (sums-small (c .before .before .before .before) .0)
+
 mul-distortion-of : tie.Need-mul-distortion-of Inv-loop μ-loop
-mul-distortion-of c = let h = inside (c .before .before) .1 in search needs
+mul-distortion-of c = let h = inside (c .before .before .before) .1 in search needs
 
 shared-slice-read-distortion-of : tie.Need-shared-slice-read-distortion-of Inv-loop μ-loop
-shared-slice-read-distortion-of c = inside (c .before .before .before) .1
+shared-slice-read-distortion-of c = inside (c .before .before .before .before) .1
 
 distortion-of-requires : tie.Need-distortion-of-requires Inv-loop μ-loop
 distortion-of-requires c κs = search needs
 
--- what is read are the scan's cells
-cells-read : (c : tie.After-distortion-of Inv-loop μ-loop) →
-    let a = c .before .before .before .before .before .before .before .before .before .before .before .args in
-    let l = c .before .before .before .before .before .before .before .loop in
-    let k = cell (a .settings) (l .i) (l .p) (choice (a .settings) (a .scratch .now) (l .i) (l .p)) in
-    (c .before .before .rate-of .result .0 ≡ getD (a .rates .now) k 0) × (c .distortion-of .result .0 ≡ getD (a .distortions .now) k 0)
-cells-read c =
-    let e = rw (c .before .before .before .before .before .read .ensures .0) at (c .before .before .before .before .number .ensures) in
-    (c .before .before .rate-of .ensures ∙ rw e, c .distortion-of .ensures ∙ rw e)
+-- .. and the scan's distortion
+distortion-read : (c : tie.After-distortion-of Inv-loop μ-loop) →
+    let a = c .before .before .before .before .before .before .before .before .before .before .before .before .args in
+    let l = c .before .before .before .before .before .before .before .before .loop in
+    c .distortion-of .result .0 ≡ getD (a .distortions .now) (cell (a .settings) (l .i) (l .p) (choice (a .settings) (a .scratch .now) (l .i) (l .p))) 0
+distortion-read c =
+    let e = rw (c .before .before .before .before .before .before .read .ensures .0) at (c .before .before .before .before .before .number .ensures) in
+    c .distortion-of .ensures ∙ rw e
 
-with-scan-requires : tie.Need-with-scan-requires Inv-loop μ-loop
-with-scan-requires c κs =
-    let s = c .before .before .before .before .before .before .before .before .before .before .before in
-    let T = table (s .args .scans) (s .args .settings) (s .args .law) (s .args .rates .now) (s .args .distortions .now) in
-    let h = along-small (table-small T (fit-legal {t = T} (s .pre .0))) (s .pre .1) (left-at (c .before .before .before .before .before .before)) in
-    (omega (arith, cells-read c .0, h .0), omega (arith, cells-read c .1, h .1))
+more-distortion-requires : tie.Need-more-distortion-requires Inv-loop μ-loop
+more-distortion-requires c κs = rw (distortion-read c) (sums-small (c .before .before .before .before .before .before .before) .1)
+
+larger-requires : tie.Need-larger-requires Inv-loop μ-loop
+larger-requires c κs = search needs
 
 add-i : tie.Need-add-i Inv-loop μ-loop
 add-i c = search needs
@@ -115,12 +137,12 @@ loop-less c = search needs
 
 loop-again : tie.Need-loop-again Inv-loop μ-loop
 loop-again c =
-    let e = c .before .before .before .before .before .before .read .ensures .0 in
-    let r = cells-read (c .before) in
-    let w = c .with-scan .ensures in
-    let l = left-at (c .before .before .before .before .before .before .before) in
-    let a = along-more l (w .0 ∙ rw (r .0)) (w .1 .0 ∙ rw (r .1)) (w .1 .1 ∙ rw (r .1)) in
-    (omega arith, setting (c .before .before .before .before .before .before), rw (e, add-one) a)
+    let e = c .before .before .before .before .before .before .before .before .read .ensures .0 in
+    let r = rate-read (c .before .before .before .before .before) in
+    let x = distortion-read (c .before .before) in
+    let a = along-more (left-at (c .before .before .before .before .before .before .before .before .before))
+    (c .before .before .before .before .more-rate .ensures ∙ rw r) (c .before .more-distortion .ensures ∙ rw x) (c .larger .ensures ∙ rw x) in
+    (omega arith, setting (c .before .before .before .before .before .before .before .before), rw (e, add-one) a)
 
 returns : tie.Need-returns Inv-loop μ-loop
 returns c =
@@ -139,10 +161,12 @@ total-up-spec =
     mul-rate-of
     shared-slice-read-rate-of
     rate-of-requires
+    more-rate-requires
     mul-distortion-of
     shared-slice-read-distortion-of
     distortion-of-requires
-    with-scan-requires
+    more-distortion-requires
+    larger-requires
     add-i
     loop-less
     loop-again

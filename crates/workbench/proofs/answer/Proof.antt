@@ -1,5 +1,4 @@
 -- `workbench::answer` meets its contract: what the ended text asks, and the lines for it. Assumes nothing.
-use mathlib.Core.Path.{_∙_}
 use native.Mathlib.Omega.{arith}
 use denote.Ref.{now}
 use Rattle.printing.specs.Lines as lines
@@ -57,7 +56,7 @@ planned-requires : tie.Need-planned-requires
 planned-requires c κs =
     let fed = c .before .before .before .before .before .before .before .before .before in
     let start = fed .before .before .before .before .before in
-    ((fed .feed .ensures .1 ∙ start .pre .0, ready (c .before .before .before) .0), start .pre .1)
+    ((rw (fed .feed .ensures .1) (start .pre .0), ready (c .before .before .before) .0), start .pre .1)
 
 same-length : tie.Need-same-length
 same-length c = search needs

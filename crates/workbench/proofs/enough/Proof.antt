@@ -23,7 +23,7 @@ abbrev test : List ℕ → State → Bool
 test n s = s .more || (leb 4 (s .taken) && settles n)
 
 -- an answer that is the test
-answers : {n : List ℕ} {s : State} (r : Bool) → length n ≡ 8196 → r ≡ test n s → (r ≡ test n s) × (r ≡ true → Decided n s)
+answers : {n : List ℕ} {s : State} (r : Bool) → 8196 ≤ length n → r ≡ test n s → (r ≡ test n s) × (r ≡ true → Decided n s)
 answers {n} {s} r len e = (e, λ t. enough-decides n s len (sym e ∙ t))
 
 -- where four numbers are taken and no word was left over, what they settle

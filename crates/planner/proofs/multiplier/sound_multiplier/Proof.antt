@@ -2,8 +2,9 @@
 use Rattle.criteria.specs.Choice.{Problem}
 use Rattle.tables.specs.Tables.{table, planning}
 use native.Mathlib.Omega.{arith}
+use Rattle.laws.proofs.Tests.{never}
 use Rattle.checks.proofs.PlanningLaws.{sound-fit, sound-plan, sound-further, multiplier-in}
-use Rattle.seek.proofs.SeekLaws.{wipe-fits, fit-framed}
+use Rattle.seek.proofs.SeekLaws.{fit-framed}
 use Rattle.planner.proofs.PromiseLaws.{values-are, says-none-allowed, says-planned}
 use borrow.Author.Needs.{needs}
 use Rattle.planner.proofs.multiplier.sound_multiplier.Statement.{statement}
@@ -35,16 +36,23 @@ returns c =
     let f = c .before .before .before .before .finish .ensures in
     says-planned (c .before .before .before .before .before .before .before .before .before .before .before .before .before .before .before .before .pre) (p .framed) f (p .some (c .before .before .before .before .before .before .before .if1 .taken), values-are {P = problem (c .before .before .before .before .before .before .before .before .before .before .before .before .before .before .before .before)} (f .totals))
 
-wipe-requires : tie.Need-wipe-requires
-wipe-requires c κs = wipe-fits (fit-framed (sound-fit (c .before .before .before .before .before .before .before .before .before .before .pre)) (c .before .before .before .before .multiplier-pass .ensures .framed))
+-- where nothing was found, what the pass leaves and the end of the call
+returns-2 : tie.Need-returns-2
+returns-2 c =
+    let p = c .before .before .before .before .before .before .before .before .before .before .multiplier-pass .ensures in
+    says-none-allowed (c .before .before .before .before .before .before .before .before .before .before .before .before .before .before .before .before .pre) (p .framed) (c .before .before .before .before .close .ensures) (p .none (c .before .before .before .before .before .before .before .if1 .left))
+
+close-requires : tie.Need-close-requires
+close-requires c κs =
+    let s = c .before .before .before .before .before .before .before .before .before .before .before in
+    let fit = fit-framed (sound-fit (s .pre)) (c .before .before .before .before .before .multiplier-pass .ensures .framed) in
+    ((fit .scans, (fit .settings, (fit .room, sound-plan (s .pre)))), λ e i h. never cc)
 
 same-length-3 : tie.Need-same-length-3
 same-length-3 c = search needs
 
-returns-2 : tie.Need-returns-2
-returns-2 c =
-    let p = c .before .before .before .before .before .before .before .multiplier-pass .ensures in
-    says-none-allowed (c .before .before .before .before .before .before .before .before .before .before .before .before .before .pre) (p .framed) (c .before .before .wipe .ensures) (p .none (c .before .before .before .before .if1 .left))
+same-length-4 : tie.Need-same-length-4
+same-length-4 c = search needs
 
 pub sound-multiplier-spec : {M : Type 1} → statement M
 sound-multiplier-spec =
@@ -55,6 +63,7 @@ sound-multiplier-spec =
     same-length
     same-length-2
     returns
-    wipe-requires
+    close-requires
     same-length-3
+    same-length-4
     returns-2)

@@ -3,7 +3,6 @@ use native.Mathlib.Omega.{arith}
 use Rattle.tables.specs.Tables.{series, table}
 use Rattle.tables.proofs.SeriesLaws.{kept-below}
 use Rattle.trellis.specs.Choices.{chosen}
-use Rattle.seek.proofs.SeekLaws.{wipe-fits}
 use borrow.Author.Needs.{needs}
 use Rattle.seek.proofs.finish.finish.Statement.{statement}
 use Rattle.seek.proofs.finish.finish.Tie as tie
@@ -11,17 +10,14 @@ use Rattle.seek.proofs.finish.finish.Tie as tie
 total-up-requires : tie.Need-total-up-requires
 total-up-requires c κs = search needs
 
-hand-over-requires : tie.Need-hand-over-requires
-hand-over-requires c κs =
+close-requires : tie.Need-close-requires
+close-requires c κs =
     let s = c .before .before .before .before .before .before .before .before in
     let a = s .args in (
       (s .pre .0 .0 .scans, (s .pre .0 .0 .settings, (s .pre .0 .0 .room, s .pre .0 .1))),
-      λ i h. kept-below (series (table (a .scans) (a .settings) (a .law) (a .rates .now) (a .distortions .now))) 0 0
+      λ e i h. kept-below (series (table (a .scans) (a .settings) (a .law) (a .rates .now) (a .distortions .now))) 0 0
           (chosen (a .settings) (a .scans) (a .scratch .now)) (s .pre .1 .1) i (omega (arith, s .pre .1 .0)),
     )
-
-wipe-requires : tie.Need-wipe-requires
-wipe-requires c κs = wipe-fits (c .before .before .before .before .before .before .before .before .before .before .before .before .pre .0 .0)
 
 same-length : tie.Need-same-length
 same-length c = search needs
@@ -30,15 +26,8 @@ same-length-2 : tie.Need-same-length-2
 same-length-2 c = search needs
 
 returns : tie.Need-returns
-returns c = record { totals = c .before .before .before .before .before .before .before .before .before .total-up .ensures; handed = c .before .before .before .before .before .before .hand-over .ensures; wiped = c .before .before .wipe .ensures }
+returns c = record { totals = c .before .before .before .before .before .before .before .total-up .ensures; handed = c .before .before .before .before .close .ensures .handed; wiped = c .before .before .before .before .close .ensures .wiped }
 
 pub finish-spec : {M : Type 1} → statement M
 finish-spec =
-    tie.close
-    (tie.spec
-    total-up-requires
-    hand-over-requires
-    wipe-requires
-    same-length
-    same-length-2
-    returns)
+    tie.close (tie.spec total-up-requires close-requires same-length same-length-2 returns)

@@ -7,6 +7,7 @@ use Prim.Native.Nat.{ℕ, _+_, _-_, _*_, _≤_, _<_}
 use lib.ListN.{length, getD, getD-replicate}
 use Rattle.tables.specs.Tables.{Table, table, scratch-need}
 use Rattle.tables.proofs.CellLaws.{square-small, squares-small}
+use Rattle.tables.proofs.LawLaws.{any-all}
 use Rattle.trellis.specs.Square.{Sixteen}
 use Rattle.trellis.proofs.ChoiceLaws.{need-more}
 use Rattle.trellis.proofs.PassLaws.{Done, done-none, done-more, ready, sixteen-zero, square-ends, pass-none, pass-some}
@@ -133,15 +134,20 @@ row-into-requires c κs = let s = c .before .before .before .before .before .bef
 row-into-requires-2 : tie.Need-row-into-requires-2 Inv-loop μ-loop
 row-into-requires-2 c κs = let s = c .before .before .before .before .before .before .before .before in (s .pre .0 .settings, (omega (arith, s .pre .0 .distortions-long), refl))
 
-all-requires : tie.Need-all-requires Inv-loop μ-loop
-all-requires c κs = search needs
+run-requires : tie.Need-run-requires Inv-loop μ-loop
+run-requires c κs = let s = c .before .before .before .before .before .before .before .before .before in (s .pre .0 .some-settings, s .pre .0 .settings)
+
+-- scan 0 may have every setting
+every : (c : tie.After-run Inv-loop μ-loop) →
+    (c .run .result .from ≡ 0) × (c .run .result .to ≡ c .before .before .before .before .before .before .before .before .before .before .args .settings)
+every c = any-all (c .before .before .before .before .before .before .before .before .before .before .pre .0 .some-settings) (c .run .ensures)
 
 pick-requires : tie.Need-pick-requires Inv-loop μ-loop
 pick-requires c κs =
     let s = c .before .before .before .before .before .before .before .before .before .before .before .before .before .before in
     let a = s .args in
     let l = c .before .before .before .before .before .before .before .before .before .before .loop in
-    let z = c .before .before .before .before .all .ensures in (
+    let z = every (c .before .before .before .before) in (
       (omega (arith, z .0, z .1), omega (arith, z .1, s .pre .0 .settings)),
       (
         s .pre .1,
@@ -160,7 +166,7 @@ store-requires c κs =
     let l = c .before .before .before .before .before .before .before .before .before .before .before .before .loop in (
       (s .pre .0 .settings, (omega arith, s .pre .0 .some-settings)),
       (
-        omega (arith, c .before .pick .ensures .1 .inside, c .before .before .before .before .before .before .all .ensures .1, s .pre .0 .settings),
+        omega (arith, c .before .pick .ensures .1 .inside, every (c .before .before .before .before .before .before) .1, s .pre .0 .settings),
         omega (arith, need-more (s .args .scans) (s .args .settings) 0 (s .pre .0 .some-scans), s .pre .0 .room, l .inv .1 .0),
       ),
     )
@@ -176,7 +182,7 @@ returns c =
     let e : l .i ≡ 0 = omega (arith, c .before .before .before .before .before .before .before .before .before .before .before .before .before .before .before .loop-test .left) in
     let d = rw e at (l .inv .1 .1 .1 .1 .1 .1) in
     let w = c .before .before .before .store .ensures in
-    let z = c .before .before .before .before .before .before .before .before .before .before .all .ensures in
+    let z = every (c .before .before .before .before .before .before .before .before .before .before) in
     let b = rw (z .0, z .1) at (c .before .before .before .before .before .pick .ensures .1) in
     let rs = c .before .before .before .before .before .before .before .before .before .before .before .before .before .row-into in
     let ds = c .before .before .before .before .before .before .before .before .before .before .before .row-into2 in
@@ -207,7 +213,7 @@ pass-spec =
     loop-again
     row-into-requires
     row-into-requires-2
-    all-requires
+    run-requires
     pick-requires
     store-requires
     same-length

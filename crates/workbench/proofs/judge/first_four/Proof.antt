@@ -64,33 +64,30 @@ unknown-requires c κs = search needs
 ranges-requires : tie.Need-ranges-requires
 ranges-requires c κs = search needs
 
+enum-known-ranged : tie.Need-enum-known-ranged
+enum-known-ranged c = search needs
+
 enum-told : tie.Need-enum-told
 enum-told c = search needs
-
-enum-told-2 : tie.Need-enum-told-2
-enum-told-2 c = search needs
-
-why-requires : tie.Need-why-requires
-why-requires c κs = search needs
-
-returns : tie.Need-returns
-returns c = rw (c .why .ensures) (stage-stops (ranged (c .before .before .before)) (c .before .enum-told2 .given .1))
 
 count-requires : tie.Need-count-requires
 count-requires c κs =
     let r = in-ranges most-scans _ _ (c .before .before .before .unknown .result) (sym (c .before .before .ranges .ensures) ∙ ap ended (c .enum-told .given .1)) in
     (r .0 .0, (r .0 .1, r .1 .1))
 
-returns-2 : tie.Need-returns-2
-returns-2 c = (passed (c .before .before), rw (counted (c .before)) at (c .if1 .taken))
+returns : tie.Need-returns
+returns c = (passed (c .before .before), rw (counted (c .before)) at (c .if1 .taken))
 
-returns-3 : tie.Need-returns-3
-returns-3 c = record {
+returns-2 : tie.Need-returns-2
+returns-2 c = record {
   in-range = passed (c .before .before);
   scans-in = scans-inside (c .before .before .before .before .before .before .before .before .before .before .before .before .before .args .numbers .now) (passed (c .before .before));
   counted = counted (c .before);
   few = c .if1 .left;
 }
+
+returns-3 : tie.Need-returns-3
+returns-3 c = stage-stops (ranged (c .before .before .before)) (c .before .ranged .given .1)
 
 pub first-four-spec : {M : Type 1} → statement M
 first-four-spec =
@@ -104,10 +101,9 @@ first-four-spec =
     cell-to-number-requires-3
     unknown-requires
     ranges-requires
+    enum-known-ranged
     enum-told
-    enum-told-2
-    why-requires
-    returns
     count-requires
+    returns
     returns-2
     returns-3)
