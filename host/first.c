@@ -20,15 +20,16 @@ int main(void) {
     const uint64_t scans = 2, settings = 2, law = 0, budget = 17;
     const uint32_t rates[] = {10, 4, 8, 3, 9, 5};
     const uint32_t distortions[] = {2, 7, 3, 6, 4, 10};
-    uint8_t answer[QPL_READ_ANSWER];
-    uint8_t file[1536];
+    /* what is lent holds values, also where a call only writes it */
+    uint8_t answer[QPL_READ_ANSWER] = {0};
+    uint8_t file[1536] = {0};
     uint8_t *plan, *scratch;
     uint64_t given, cells, scratch_bytes, k;
 
     given = qpl_room(1, scans, settings, answer, sizeof answer);
     if (given != 0) stop("qpl_room", given);
-    cells = qpl_value(answer, 0);
-    scratch_bytes = qpl_value(answer, 2);
+    cells = qpl_value(answer, QPL_ROOM_CELLS);
+    scratch_bytes = qpl_value(answer, QPL_ROOM_SCRATCH);
     plan = lend(scans);
     scratch = lend(scratch_bytes);
 
@@ -36,17 +37,19 @@ int main(void) {
                         (size_t)scratch_bytes, answer, sizeof answer);
     if (given != 0) stop("qpl_average", given);
 
-    /* n, d, rate, distortion, peak and floor go into the file as they came; kind 0 is an average plan. */
-    given = qpl_write(scans, settings, law, 0, budget, qpl_value(answer, 0), qpl_value(answer, 1), qpl_value(answer, 2),
-                      qpl_value(answer, 3), qpl_value(answer, 4), qpl_value(answer, 5), plan, (size_t)scans, file, sizeof file);
+    /* n, d, rate, distortion, peak and floor go into the file as they came. */
+    given = qpl_write(scans, settings, law, QPL_KIND_AVERAGE, budget, qpl_value(answer, QPL_AVERAGE_N), qpl_value(answer, QPL_AVERAGE_D),
+                      qpl_value(answer, QPL_AVERAGE_RATE), qpl_value(answer, QPL_AVERAGE_DISTORTION), qpl_value(answer, QPL_AVERAGE_PEAK),
+                      qpl_value(answer, QPL_AVERAGE_FLOOR), plan, (size_t)scans, file, sizeof file);
     if (given != 0) stop("qpl_write", given);
 
     given = qpl_read(file, 1024, plan, (size_t)scans, answer, sizeof answer);
     if (given != 0) stop("qpl_read", given);
 
-    printf("multiplier %lu/%lu rate %lu distortion %lu peak %lu floor %lu settings", (unsigned long)qpl_value(answer, 5),
-           (unsigned long)qpl_value(answer, 6), (unsigned long)qpl_value(answer, 7), (unsigned long)qpl_value(answer, 8),
-           (unsigned long)qpl_value(answer, 9), (unsigned long)qpl_value(answer, 10));
+    printf("multiplier %lu/%lu rate %lu distortion %lu peak %lu floor %lu settings", (unsigned long)qpl_value(answer, QPL_READ_N),
+           (unsigned long)qpl_value(answer, QPL_READ_D), (unsigned long)qpl_value(answer, QPL_READ_RATE),
+           (unsigned long)qpl_value(answer, QPL_READ_DISTORTION), (unsigned long)qpl_value(answer, QPL_READ_PEAK),
+           (unsigned long)qpl_value(answer, QPL_READ_FLOOR));
     for (k = 0; k < scans; k++) printf(" %u", (unsigned)plan[k]);
     printf("\n");
     free(plan);

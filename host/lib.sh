@@ -11,8 +11,29 @@ made=target/host
 warnings="-Wall -Wextra -Wpedantic"
 mkdir -p "$made"
 
+# at_work NAME WHAT COMMAND..: runs a command of the kit, with its output in target/host/NAME.log. From nothing it proves for minutes, so after
+# five seconds one line on standard error says what is done; where it fails, its last lines go there too.
+at_work() {
+    log=$made/$1.log what=$2 status=0
+    shift 2
+    (
+        sleep 5 >/dev/null 2>&1
+        # nothing is at work where the script was stopped meanwhile
+        kill -0 $$ 2>/dev/null && echo "at work: proving and building $what; from nothing this takes some minutes ($log)" >&2
+    ) &
+    teller=$!
+    "$@" >"$log" 2>&1 || status=$?
+    kill "$teller" 2>/dev/null || true
+    wait "$teller" 2>/dev/null || true
+    [ "$status" = 0 ] || tail -5 "$log" >&2
+    return "$status"
+}
+
 # The archive, proved and built: target/staticlib/libqpl.a.
-archive() { rt staticlib qpl >"$made/archive.log" 2>&1 || { tail -5 "$made/archive.log"; return 1; }; }
+archive() { at_work archive "the archive" rt staticlib qpl; }
+
+# The program bench, proved and built: target/host/bench runs it.
+bench() { at_work bench "the program bench" rt check bench && program bench; }
 
 # The folders of the C library's headers, for a compiler that has none of its own.
 headers() { echo "-isystem $(cc -print-file-name=include) -isystem /usr/include/$(cc -print-multiarch) -isystem /usr/include"; }
@@ -60,7 +81,7 @@ for a in "\$@"; do case \$a in *.bc | *.ll) cp "\$a" "$own/caught/\$\$.\$(basena
 exec "$tools/bin/clang" "\$@"
 W
     chmod +x "$own/on/$machine/toolchain/bin/clang"
-    RATTLE_HOME=$own "$kit/bin/rt" staticlib qpl >"$made/native.log" 2>&1 &&
+    at_work native "the archive once more, for its bitcode" env RATTLE_HOME="$own" "$kit/bin/rt" staticlib qpl &&
         "$tools/bin/clang" --target="$machine-unknown-linux-gnu" -O3 -Wno-override-module -fPIC \
             -x ir "$(find "$own/caught" -type f | head -1)" -c -o "$made/qpl.o" >>"$made/native.log" 2>&1
     status=$?

@@ -1,5 +1,6 @@
-/* The worked tables of document 01 ("Bench tables", the "Others" too) and its room figures, through the archive: every value, every byte
- * of every buffer, and guard bytes on both sides of each. What is expected is written out by hand from the document. */
+/* The worked tables of document 01 ("Bench tables", the "Others" too) and its room figures, through the archive: of
+ * planning calls every value, every byte of every buffer, and guard bytes on both sides of each; of files the fields, the settings, the
+ * letters, the first packed byte, and guard bytes. What is expected is written out by hand from the document. */
 #include "lent.h"
 #include "qpl.h"
 
@@ -137,8 +138,8 @@ static const expected all[] = {
 static int room_is(uint64_t channels, uint64_t scans, uint64_t settings, uint64_t cells, uint64_t bytes, uint64_t scratch) {
     lent answer = lend(QPL_ROOM_ANSWER, 50);
     uint64_t given = qpl_room(channels, scans, settings, answer.bytes, answer.length);
-    int good = given == 0 && lent_guarded(&answer) && qpl_value(answer.bytes, 0) == cells && qpl_value(answer.bytes, 1) == bytes &&
-               qpl_value(answer.bytes, 2) == scratch;
+    int good = given == 0 && lent_guarded(&answer) && qpl_value(answer.bytes, QPL_ROOM_CELLS) == cells &&
+               qpl_value(answer.bytes, QPL_ROOM_BYTES) == bytes && qpl_value(answer.bytes, QPL_ROOM_SCRATCH) == scratch;
     give_back(&answer);
     return good;
 }
@@ -150,14 +151,37 @@ static int room_refused(uint64_t channels, uint64_t scans, uint64_t settings, si
     return good;
 }
 
+/* Named values: the last of each answer ends where the answer does, and T's answers stand under their names. */
+static void named(void) {
+    uint8_t plan[2] = {0}, scratch[4] = {0}, answer[QPL_AVERAGE_ANSWER] = {0};
+    expect("the names end where the answers do",
+           8 * (QPL_ROOM_SCRATCH + 1) == QPL_ROOM_ANSWER && 8 * (QPL_READ_FLOOR + 1) == QPL_READ_ANSWER &&
+               8 * (QPL_CEILING_PEAK + 1) == QPL_CEILING_ANSWER && 8 * (QPL_MULTIPLIER_PEAK + 1) == QPL_MULTIPLIER_ANSWER &&
+               8 * (QPL_MINMAX_PEAK + 1) == QPL_MINMAX_ANSWER && 8 * (QPL_AVERAGE_FLOOR + 1) == QPL_AVERAGE_ANSWER);
+    qpl_ceiling(2, 2, 0, 7, t_rates, 6, t_distortions, 6, plan, 2, scratch, 4, answer, sizeof answer);
+    expect("T, ceiling 7, by name", qpl_value(answer, QPL_CEILING_RATE) == 13 && qpl_value(answer, QPL_CEILING_DISTORTION) == 8 &&
+                                        qpl_value(answer, QPL_CEILING_PEAK) == 6);
+    qpl_multiplier(2, 2, 0, 9, 4, t_rates, 6, t_distortions, 6, plan, 2, scratch, 4, answer, sizeof answer);
+    expect("T, multiplier 9/4, by name", qpl_value(answer, QPL_MULTIPLIER_RATE) == 9 && qpl_value(answer, QPL_MULTIPLIER_DISTORTION) == 17 &&
+                                             qpl_value(answer, QPL_MULTIPLIER_PEAK) == 10);
+    qpl_minmax(2, 2, 0, 17, t_rates, 6, t_distortions, 6, plan, 2, scratch, 4, answer, sizeof answer);
+    expect("T, minmax 17, by name", qpl_value(answer, QPL_MINMAX_CEILING) == 6 && qpl_value(answer, QPL_MINMAX_RATE) == 13 &&
+                                        qpl_value(answer, QPL_MINMAX_DISTORTION) == 8 && qpl_value(answer, QPL_MINMAX_PEAK) == 6);
+    qpl_average(2, 2, 0, 12, t_rates, 6, t_distortions, 6, plan, 2, scratch, 4, answer, sizeof answer);
+    expect("T, average 12, by name", qpl_value(answer, QPL_AVERAGE_N) == 9 && qpl_value(answer, QPL_AVERAGE_D) == 4 &&
+                                         qpl_value(answer, QPL_AVERAGE_RATE) == 9 && qpl_value(answer, QPL_AVERAGE_DISTORTION) == 17 &&
+                                         qpl_value(answer, QPL_AVERAGE_PEAK) == 10 && qpl_value(answer, QPL_AVERAGE_FLOOR) == 11);
+}
+
 /* T's average plan for 17 to a file and back, with buffers of exactly the needed size; and a changed byte. */
 static void files(void) {
     static const uint8_t settings[] = {0, 1};
     static const uint64_t fields[] = {2, 2, 0, 0, 17, 3, 5, 13, 8, 6, 6};
     lent file = lend(1024, 13), plan = lend(2, 13), answer = lend(QPL_READ_ANSWER, 50);
     int k, good = 1;
-    expect("T, average 17: written", qpl_write(2, 2, 0, 0, 17, 3, 5, 13, 8, 6, 6, settings, 2, file.bytes, file.length) == 0 &&
-                                         lent_guarded(&file) && memcmp(file.bytes + 4, "QPL1", 4) == 0 && file.bytes[516] == 0x10);
+    expect("T, average 17: written",
+           qpl_write(2, 2, 0, QPL_KIND_AVERAGE, 17, 3, 5, 13, 8, 6, 6, settings, 2, file.bytes, file.length) == 0 && lent_guarded(&file) &&
+               memcmp(file.bytes + 4, "QPL1", 4) == 0 && file.bytes[516] == 0x10);
     expect("T, average 17: read", qpl_read(file.bytes, file.length, plan.bytes, plan.length, answer.bytes, answer.length) == 0 &&
                                       holds(&plan, 2, settings, 13) && lent_guarded(&answer));
     for (k = 0; k < 11; k++) good = good && qpl_value(answer.bytes, (size_t)k) == fields[k];
@@ -179,10 +203,11 @@ static void files(void) {
     give_back(&file);
     file = lend(1024, 13);
     expect("a rate above B: refused 13, at 32",
-           qpl_write(2, 2, 0, 0, 12, 3, 5, 13, 8, 6, 6, settings, 2, file.bytes, file.length) == (13 | (uint64_t)32 << 32) &&
+           qpl_write(2, 2, 0, QPL_KIND_AVERAGE, 12, 3, 5, 13, 8, 6, 6, settings, 2, file.bytes, file.length) ==
+                   (13 | (uint64_t)32 << 32) &&
                holds(&file, 0, NULL, 13));
     expect("a file buffer of 1,023 bytes: refused 6",
-           qpl_write(2, 2, 0, 0, 17, 3, 5, 13, 8, 6, 6, settings, 2, file.bytes, 1023) == 6 && holds(&file, 0, NULL, 13));
+           qpl_write(2, 2, 0, QPL_KIND_AVERAGE, 17, 3, 5, 13, 8, 6, 6, settings, 2, file.bytes, 1023) == 6 && holds(&file, 0, NULL, 13));
     give_back(&file);
     give_back(&plan);
     give_back(&answer);
@@ -204,6 +229,7 @@ int main(void) {
                                                      room_refused(1, (UINT64_C(1) << 32) + 1, 1, 24, 1) &&
                                                      room_refused(1, 1, (UINT64_C(1) << 32) + 1, 24, 2));
     expect("an answer buffer of 23 bytes", room_refused(1, 1, 1, 23, 6) && room_refused(1, 1, 1, 0, 6) && room_refused(1, 1, 0, 23, 2));
+    named();
     files();
     printf("%d passed, %d failed\n", passed, failed);
     return failed != 0;

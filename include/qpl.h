@@ -1,8 +1,14 @@
 /* qpl.h: settings for a series of scans, the room that they take, and plan files.
  *
- * Archive: libqpl.a. Every function is proved to meet the promise that stands over it here, for arguments of any content, and to end.
- * A call keeps nothing between calls and takes no memory but what it is lent (and some kilobytes of stack), so calls on different buffers
- * may run side by side.
+ * Archive: libqpl.a, for x86-64. Every function is proved to meet its contract in crates/qpl/src/lib.rt, for arguments of any content, and to
+ * end; the words here say the same, and what the proofs assume of a host is said below. A call keeps nothing between calls and takes no
+ * memory but what it is lent and its stack (QPL_STACK), so calls on different buffers may run side by side. The archive's only undefined
+ * symbols are memcpy and memset of the C library.
+ *
+ * The words: a sequence is allowed when it has `scans` settings below `settings`, uses no forbidden cell and keeps the law. Law 0: any
+ * change between scans. Law 1: consecutive settings differ by at most 2. The rate of a sequence is the sum of its rate cells, its
+ * distortion the sum of its distortion cells, its peak the largest of its distortion cells. "First" among sequences: at the earliest place
+ * where two differ, the lower setting wins.
  *
  * What a call gives back: 0, or a refusal. A refusal has its number in the low 32 bits (qpl_refusal) and what it carries in the high 32
  * (qpl_carried; 0 where the table below names nothing).
@@ -25,11 +31,15 @@
  * What a call answers goes to the buffer `answer`: values of eight bytes each, low byte first, in the order given (qpl_value reads one).
  * A refusal changes no byte of it, and bytes past the answer never change.
  *
- * What a host must keep to, as the proofs assume it:
- *  - a pointer is valid for its length for the whole call; a null pointer with length 0 is allowed;
- *  - no buffer that a call may write overlaps another buffer or table of that call, and nothing else changes them while it runs;
+ * What a host must keep to, as the proofs assume it, whether a call succeeds or refuses:
+ *  - a pointer is valid for the whole length that goes with it, for the whole call, also where that length is one that the call refuses;
+ *    rates_length and distortions_length count cells, every other length counts bytes; what a pointer points to takes fewer than 2^63 bytes.
+ *    A null pointer with length 0 is allowed;
+ *  - every byte and every cell that is lent holds a value, in buffers that a call only writes too: no memory that was never initialised;
+ *  - no buffer that a call may write overlaps anything else that is lent to that call, and nothing else changes what is lent while the call
+ *    runs;
  *  - tables of 32-bit cells are aligned as C aligns uint32_t. Bytes need no alignment.
- * Numbers are 64 bits wide so that none is cut before it is checked.
+ * Numbers are 64 bits wide, so that none is cut before it is checked, but for cells and the ceiling of qpl_ceiling, which have 32 bits.
  *
  * The scope of the library names the room question and the reader for C hosts, "with numbers and byte slices". The writer and the four
  * planning calls go beyond that, and so do the slices of 32-bit cells.
@@ -44,13 +54,48 @@
 extern "C" {
 #endif
 
-/* The lengths of the answers. */
+/* The lengths of the answers, in bytes. */
 #define QPL_ROOM_ANSWER 24
 #define QPL_READ_ANSWER 88
 #define QPL_CEILING_ANSWER 24
 #define QPL_MULTIPLIER_ANSWER 24
 #define QPL_MINMAX_ANSWER 32
 #define QPL_AVERAGE_ANSWER 48
+
+/* A call takes at most this much stack, in bytes from the caller's stack pointer at the call. That is measured, and not proved.
+ *
+ * host/stack.c runs the calls of the x86-64 archive on a painted stack and finds the deepest byte that changed, the return address counted:
+ * room 96, read 688, write 624, ceiling 5,520, multiplier 5,536, minmax 5,568, average 5,680. It runs the largest tables, small ones,
+ * refusals, and n and d that are consecutive Fibonacci numbers. The frames in the disassembly, read by hand, all have fixed sizes and agree to
+ * 3 bytes: the deepest chain of calls, from qpl_average through the pass to the choice of a row, takes 5,683. One function calls itself (the
+ * lowest terms of n/d): 64 bytes each time, at most 44 times, and never while a pass is on the stack. The common divisor has become a loop.
+ *
+ * The figures are of the archive as rattle-kit-5b compiles it, seen under the kit's emulator with its C library, whose memcpy and memset are
+ * counted as they ran; host/run measures the archive at hand. The stack of a loader that binds the two at their first call comes on top. */
+#define QPL_STACK 6144
+
+/* Where each value stands in the answer of its call, for qpl_value. */
+enum { QPL_ROOM_CELLS, QPL_ROOM_BYTES, QPL_ROOM_SCRATCH };
+enum {
+    QPL_READ_SCANS,
+    QPL_READ_SETTINGS,
+    QPL_READ_LAW,
+    QPL_READ_KIND,
+    QPL_READ_BUDGET,
+    QPL_READ_N,
+    QPL_READ_D,
+    QPL_READ_RATE,
+    QPL_READ_DISTORTION,
+    QPL_READ_PEAK,
+    QPL_READ_FLOOR
+};
+enum { QPL_CEILING_RATE, QPL_CEILING_DISTORTION, QPL_CEILING_PEAK };
+enum { QPL_MULTIPLIER_RATE, QPL_MULTIPLIER_DISTORTION, QPL_MULTIPLIER_PEAK };
+enum { QPL_MINMAX_CEILING, QPL_MINMAX_RATE, QPL_MINMAX_DISTORTION, QPL_MINMAX_PEAK };
+enum { QPL_AVERAGE_N, QPL_AVERAGE_D, QPL_AVERAGE_RATE, QPL_AVERAGE_DISTORTION, QPL_AVERAGE_PEAK, QPL_AVERAGE_FLOOR };
+
+/* The kinds of a plan file: what an average call answers, and what a minmax call does. */
+enum { QPL_KIND_AVERAGE = 0, QPL_KIND_MINMAX = 1 };
 
 /* A rate that means "this choice is forbidden". */
 #define QPL_FORBIDDEN 4294967295u
@@ -59,7 +104,7 @@ extern "C" {
 static inline uint32_t qpl_refusal(uint64_t given) { return (uint32_t)(given & 0xffffffffu); }
 static inline uint32_t qpl_carried(uint64_t given) { return (uint32_t)(given >> 32); }
 
-/* Value k of an answer, counted from 0. */
+/* Value k of an answer, counted from 0: k is one of the names above. */
 static inline uint64_t qpl_value(const uint8_t *answer, size_t k) {
     uint64_t value = 0;
     size_t i;
@@ -72,8 +117,28 @@ static inline uint64_t qpl_value(const uint8_t *answer, size_t k) {
  * Refusals, the first that applies: 10, 1, 2, 6 (answer under 24 bytes). Only the first 24 bytes of answer may change, and on 0 alone. */
 uint64_t qpl_room(uint64_t channels, uint64_t scans, uint64_t settings, uint8_t *answer, size_t answer_length);
 
+/* Plan files: blocks of 512 bytes, the fields in block 0, the settings two to a byte behind it. 13 carries the byte of the first field that
+ * breaks its rule, in this order:
+ *    4  letters          QPL1
+ *    8  scans            1 to 1,024; a file of over 1,008 has 1,536 bytes, any other 1,024
+ *   10  settings         1 to 16
+ *   11  law              0 or 1
+ *   12  kind             0 or 1
+ *   13  zeros
+ *   24  n                kind 0: at most 1,073,741,823, and n/d in lowest terms; kind 1: 0
+ *   28  d                kind 0: 1 to 1,073,741,823; kind 1: 0
+ *   32  rate             at most budget and at most 1,073,740,800
+ *   36  distortion       at most 1,073,740,800
+ *   40  peak             at most 1,048,575 and at most the distortion
+ *   44  floor            kind 0: at most the distortion; kind 1: 0
+ *   48  zeros
+ * The budget (byte 16) may be any number. The letters, the zeros and the length are the writer's own, and never broken there. 14 carries the
+ * first entry that breaks its rule: an entry below `scans` is a setting below `settings` that keeps the law with the one before it, and a
+ * later one (filler, of which the writer makes its own) is zero. */
+
 /* Reads a plan file of any bytes and any length.
- * Answer (88 bytes): scans, settings, law, kind (0 average, 1 minmax), budget, n, d, rate, distortion, peak, floor.
+ * Answer (88 bytes): scans, settings, law, kind (0 average, 1 minmax), budget, n, d, rate, distortion, peak, floor. In a file of kind 1 n, d
+ * and floor are 0.
  * Refusals, the first that applies: 11, 12, 13, 6 (plan under scans bytes, or answer under 88), 14.
  * On 0 the first `scans` bytes of plan are the settings and the rest is as it was; on a refusal all of plan is as it was. */
 uint64_t qpl_read(const uint8_t *file, size_t file_length, uint8_t *plan, size_t plan_length, uint8_t *answer, size_t answer_length);
@@ -87,9 +152,9 @@ uint64_t qpl_write(uint64_t scans, uint64_t settings, uint64_t law, uint64_t kin
                    size_t file_length);
 
 /* The planning calls. Both tables have exactly settings + (scans - 1) * settings * settings cells: scan 0, setting q is cell q; scan i
- * from 1, previous setting p, setting q is cell settings + (i - 1) * settings * settings + p * settings + q. Rates are 0 to 1,048,575 or
- * QPL_FORBIDDEN; a distortion is 0 to 1,048,575, and beside a forbidden rate it is not looked at. plan needs `scans` bytes, scratch
- * scans * settings bytes.
+ * from 1, previous setting p, setting q is cell settings + (i - 1) * settings * settings + p * settings + q. A rate is 0 to 1,048,575 or
+ * QPL_FORBIDDEN. A distortion is 0 to 1,048,575; beside a forbidden rate it may have any value, and no answer depends on it. Cells that the
+ * law rules out must still hold such values. plan needs `scans` bytes, scratch scans * settings bytes.
  *
  * Refusals, the first that applies: 1, 2, 3, (4: qpl_multiplier alone,) 5, 6 (plan, scratch or answer too short), 7, 8, (9: not by
  * qpl_multiplier).
@@ -97,7 +162,8 @@ uint64_t qpl_write(uint64_t scans, uint64_t settings, uint64_t law, uint64_t kin
  * On refusals 1 to 7 every buffer is as it was. On 0, 8 and 9 the first scans * settings bytes of scratch are zero and the rest is as it
  * was. On 0 the first `scans` bytes of plan are the settings and the rest is as it was; on 8 and 9 all of plan is as it was. */
 
-/* Among the allowed sequences with peak at most `ceiling`: least rate, then least distortion, then first.
+/* Among the allowed sequences with peak at most `ceiling`: least rate, then least distortion, then first. Every ceiling from 1,048,575 on
+ * means no ceiling. A number wider than 32 bits is cut by C before the call sees it, so a host that has one passes 4,294,967,295 instead.
  * Answer (24 bytes): rate, distortion, peak. */
 uint64_t qpl_ceiling(uint64_t scans, uint64_t settings, uint64_t law, uint32_t ceiling, const uint32_t *rates, size_t rates_length,
                      const uint32_t *distortions, size_t distortions_length, uint8_t *plan, size_t plan_length, uint8_t *scratch,
@@ -115,8 +181,8 @@ uint64_t qpl_minmax(uint64_t scans, uint64_t settings, uint64_t law, uint64_t bu
                     const uint32_t *distortions, size_t distortions_length, uint8_t *plan, size_t plan_length, uint8_t *scratch,
                     size_t scratch_length, uint8_t *answer, size_t answer_length);
 
-/* The least multiplier n/d whose multiplier plan has rate at most `budget`, in lowest terms, with that plan and the floor that it proves:
- * no sequence of rate at most `budget` has a distortion below the floor.
+/* The least multiplier n/d whose multiplier plan has rate at most `budget`, in lowest terms (zero as 0/1), with that plan and the floor that
+ * it proves: no allowed sequence of rate at most `budget` has a distortion below the floor.
  * Answer (48 bytes): n, d, rate, distortion, peak, floor. */
 uint64_t qpl_average(uint64_t scans, uint64_t settings, uint64_t law, uint64_t budget, const uint32_t *rates, size_t rates_length,
                      const uint32_t *distortions, size_t distortions_length, uint8_t *plan, size_t plan_length, uint8_t *scratch,

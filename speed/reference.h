@@ -1,6 +1,8 @@
 /* The planner as it would be written by hand in C, for comparison: the same passes, backward over the scans with two keys for each setting
  * before, and the same searches over them. REFERENCE names the file's functions, LOOP is the inner loop over the settings of a row.
  * It checks nothing but what it is told to: `checked` asks for the walk that finds an illegal cell. */
+#include "qpl.h"
+
 #include <stddef.h>
 #include <stdint.h>
 #include <string.h>
@@ -107,12 +109,13 @@ static int illegal(const job *j) {
 
 static uint64_t divisor(uint64_t a, uint64_t b) { return b ? divisor(b, a % b) : a; }
 
-/* Whole calls over a pass. Each answers its values, or leaves 0 in the count. */
+/* Whole calls over a pass. Each puts its values in the places that the proved call answers them in, and gives back how many; 0 where there is
+ * no plan. */
 #define CALLS(name)                                                                                                                         \
     static size_t name##_multiplier(const job *j, uint64_t n, uint64_t d, int checked, uint8_t *plan, uint64_t *v) {                        \
         if ((checked && illegal(j)) || !name##_cost(j, n, d)) return 0;                                                                     \
         sums t = walk(j, plan);                                                                                                             \
-        v[0] = t.rate, v[1] = t.distortion, v[2] = t.peak;                                                                                  \
+        v[QPL_MULTIPLIER_RATE] = t.rate, v[QPL_MULTIPLIER_DISTORTION] = t.distortion, v[QPL_MULTIPLIER_PEAK] = t.peak;                      \
         return 3;                                                                                                                           \
     }                                                                                                                                       \
     static size_t name##_average(const job *j, uint64_t budget, int checked, uint8_t *plan, uint64_t *v) {                                  \
@@ -137,12 +140,17 @@ static uint64_t divisor(uint64_t a, uint64_t b) { return b ? divisor(b, a % b) :
         uint64_t g = divisor(n, d);                                                                                                         \
         n /= g, d /= g;                                                                                                                     \
         uint64_t cost = d * t.distortion + n * t.rate, bought = n * budget;                                                                 \
-        v[0] = n, v[1] = d, v[2] = t.rate, v[3] = t.distortion, v[4] = t.peak, v[5] = cost < bought ? 0 : (cost - bought + d - 1) / d;      \
+        v[QPL_AVERAGE_N] = n, v[QPL_AVERAGE_D] = d;                                                                                         \
+        v[QPL_AVERAGE_RATE] = t.rate, v[QPL_AVERAGE_DISTORTION] = t.distortion, v[QPL_AVERAGE_PEAK] = t.peak;                               \
+        v[QPL_AVERAGE_FLOOR] = cost < bought ? 0 : (cost - bought + d - 1) / d;                                                             \
         return 6;                                                                                                                           \
     }                                                                                                                                       \
     static size_t name##_minmax(const job *j, uint64_t budget, int checked, uint8_t *plan, uint64_t *v) {                                   \
-        if ((checked && illegal(j)) || !name##_thrifty(j, FORBIDDEN) || walk(j, NULL).rate > budget) return 0;                              \
-        uint32_t low = 0, high = MOST_CELL;                                                                                                 \
+        if ((checked && illegal(j)) || !name##_thrifty(j, FORBIDDEN)) return 0;                                                             \
+        sums t = walk(j, NULL);                                                                                                             \
+        if (t.rate > budget) return 0;                                                                                                      \
+        /* the least-rate plan fits, so that no ceiling over its peak is the least: the proved call starts there too */                     \
+        uint32_t low = 0, high = (uint32_t)t.peak;                                                                                          \
         while (low < high) {                                                                                                                \
             uint32_t middle = (low + high) / 2;                                                                                             \
             if (name##_thrifty(j, middle) && walk(j, NULL).rate <= budget)                                                                  \
@@ -151,8 +159,9 @@ static uint64_t divisor(uint64_t a, uint64_t b) { return b ? divisor(b, a % b) :
                 low = middle + 1;                                                                                                           \
         }                                                                                                                                   \
         name##_thrifty(j, low);                                                                                                             \
-        sums t = walk(j, plan);                                                                                                             \
-        v[0] = low, v[1] = t.rate, v[2] = t.distortion, v[3] = t.peak;                                                                      \
+        t = walk(j, plan);                                                                                                                  \
+        v[QPL_MINMAX_CEILING] = low;                                                                                                        \
+        v[QPL_MINMAX_RATE] = t.rate, v[QPL_MINMAX_DISTORTION] = t.distortion, v[QPL_MINMAX_PEAK] = t.peak;                                  \
         return 4;                                                                                                                           \
     }
 

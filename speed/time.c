@@ -1,5 +1,5 @@
-/* Times of the proved calls beside the same calls written in C, in one run: the versions take turns, results are compared, and the ratio of
- * the medians is printed. Below 1 the proved call is the faster one.
+/* Times of the proved calls beside the same calls written in C, in one run: the versions take turns, values and plans are compared, and the
+ * ratio of the medians is printed. Below 1 the proved call is the faster one.
  *
  * A call includes the check of every cell, on both sides. "One pass" leaves it out: of the proved call it is a multiplier call less one that
  * is refused at the last cell, and by hand it is the pass and the walk along its choices, with no check. */
@@ -49,19 +49,20 @@ enum call { PASS, MULTIPLIER, AVERAGE, MINMAX };
 static const char *const names[] = {"one pass", "multiplier", "average", "minmax"};
 static const size_t lengths[] = {QPL_MULTIPLIER_ANSWER, QPL_MULTIPLIER_ANSWER, QPL_AVERAGE_ANSWER, QPL_MINMAX_ANSWER};
 
+/* The values of the proved call, and how many there are: 0 where it refuses. */
 static size_t proved(enum call which, const job *j, uint64_t limit, uint64_t *v) {
-    uint8_t answer[48];
+    uint8_t answer[QPL_AVERAGE_ANSWER] = {0};
     size_t cells = j->settings + (j->scans - 1) * j->settings * j->settings;
     uint64_t given;
     if (which <= MULTIPLIER)
         given = qpl_multiplier(j->scans, j->settings, j->law, limit, 1, rates, cells, distortions, cells, plans[0], 1024, scratch, 16384,
-                               answer, 48);
+                               answer, sizeof answer);
     else if (which == AVERAGE)
         given = qpl_average(j->scans, j->settings, j->law, limit, rates, cells, distortions, cells, plans[0], 1024, scratch, 16384, answer,
-                            48);
+                            sizeof answer);
     else
         given = qpl_minmax(j->scans, j->settings, j->law, limit, rates, cells, distortions, cells, plans[0], 1024, scratch, 16384, answer,
-                           48);
+                           sizeof answer);
     if (given) return 0;
     for (size_t k = 0; k < lengths[which] / 8; k++) v[k] = qpl_value(answer, k);
     return lengths[which] / 8;
@@ -86,21 +87,18 @@ static double median(double *took) {
     return took[TURNS / 2];
 }
 
-/* The time of one call of this version, which is repeated where the clock could not tell. */
-static double timed(int version, enum call which, const job *j, uint64_t limit, uint64_t *v, size_t times) {
+/* The time of one call of this version, which is repeated where the clock could not tell; its values, and how many there are. */
+static double timed(int version, enum call which, const job *j, uint64_t limit, uint64_t *v, size_t *count, size_t times) {
     double start = now();
-    for (size_t k = 0; k < times; k++)
-        if (version == 0)
-            proved(which, j, limit, v);
-        else
-            by_hand(version, which, j, limit, v);
+    for (size_t k = 0; k < times; k++) *count = version == 0 ? proved(which, j, limit, v) : by_hand(version, which, j, limit, v);
     return (now() - start) / (double)times;
 }
 
 /* Version 0 is the proved call, 1 the straightforward loop, 2 the least key first. */
 static int row(enum call which, size_t scans, size_t settings, size_t law, int smooth) {
     double took[3][TURNS];
-    uint64_t v[3][6] = {{0}}, unused[6], limit;
+    uint64_t v[3][6] = {{0}}, unused[6] = {0}, limit;
+    size_t counts[3] = {0}, refused = 0;
     job j = {rates, distortions, scans, settings, law, scratch};
     size_t cells = settings + (scans - 1) * settings * settings, times = 1 + 60000 / cells / (which <= MULTIPLIER ? 1 : 8);
     fill(scans, settings, smooth);
@@ -110,17 +108,19 @@ static int row(enum call which, size_t scans, size_t settings, size_t law, int s
     straight_cost(&j, 0, 1);
     limit = which <= MULTIPLIER ? 1 : (limit + walk(&j, NULL).rate) / 2;
     for (int turn = 0; turn < TURNS; turn++) {
-        for (int version = 0; version < 3; version++) took[version][turn] = timed(version, which, &j, limit, v[version], times);
+        for (int version = 0; version < 3; version++)
+            took[version][turn] = timed(version, which, &j, limit, v[version], &counts[version], times);
         if (which == PASS) {
             uint32_t last = distortions[cells - 1];
             distortions[cells - 1] = MOST_CELL + 1;
-            took[0][turn] -= timed(0, which, &j, limit, unused, times);
+            took[0][turn] -= timed(0, which, &j, limit, unused, &refused, times);
             distortions[cells - 1] = last;
         }
     }
-    for (int other = 1; other < 3; other++)
-        if (v[0][lengths[which] / 8 - 2] == 0 || memcmp(v[0], v[other], lengths[which]) || memcmp(plans[0], plans[other], scans))
+    for (int version = 0; version < 3; version++)
+        if (counts[version] != lengths[which] / 8 || memcmp(v[0], v[version], lengths[which]) || memcmp(plans[0], plans[version], scans))
             return printf("%s: results differ\n", names[which]), 1;
+    if (refused != 0) return printf("%s: an illegal cell is not refused\n", names[which]), 1;
     double ours = median(took[0]);
     printf("%-10s N %4zu Q %2zu law %zu %-6s  %9.1f us  %5.3f  %5.3f\n", names[which], scans, settings, law, smooth ? "smooth" : "random", ours,
            ours / median(took[1]), ours / median(took[2]));
