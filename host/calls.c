@@ -1,5 +1,6 @@
 /* Calls of the archive from standard input, what each gives back and leaves on standard output: the tests from outside compare it with the
- * second program. Each lent buffer is exactly as long as asked, between guard bytes, and filled with a pattern before the call.
+ * second program. Each lent buffer is exactly as long as asked, between guard bytes, and filled with a pattern before the call; so are the
+ * tables of an import, between guard cells (lent.h). The tables of an export stand between guard cells too, and must be as they were.
  *
  * A call is words parted by blanks. Numbers are decimal; bytes are hexadecimal, or "-" for none.
  *   room CHANNELS SCANS SETTINGS ANSWER
@@ -8,8 +9,12 @@
  *   minmax, average: SCANS SETTINGS LAW B PLAN SCRATCH ANSWER RATES DISTORTIONS cells..
  *   read PLAN ANSWER bytes of the file
  *   write eleven fields FILE bytes of the settings
- * where PLAN, SCRATCH, ANSWER and FILE are lengths of buffers, and RATES and DISTORTIONS are lengths of tables.
- * A line of the output is the 64-bit number that came back, and every byte of every lent buffer in the order answer, plan, scratch, file. */
+ *   import SCANS SETTINGS RATES DISTORTIONS bytes of scratch bytes of the text
+ *   export SCANS SETTINGS TEXT ANSWER RATES DISTORTIONS cells..
+ * where PLAN, SCRATCH, ANSWER, FILE and TEXT are lengths of buffers, and RATES and DISTORTIONS are lengths of tables. Scratch is given to an
+ * import as bytes, since whatever it holds before must not count.
+ * A line of the output is the 64-bit number that came back, and every byte of every lent buffer in the order answer, plan, scratch, file,
+ * text; of an import also every cell of rates and distortions, in decimal with commas between them, or "-" for none. */
 #include "lent.h"
 #include "qpl.h"
 
@@ -43,6 +48,14 @@ static void show(lent *l) {
     give_back(l);
 }
 
+static void show_table(lent_table *l) {
+    size_t i;
+    printf(l->length == 0 ? " -" : " ");
+    for (i = 0; i < l->length; i++) printf(i == 0 ? "%" PRIu32 : ",%" PRIu32, l->cells[i]);
+    if (!table_guarded(l)) printf(" GUARD CELLS WRITTEN");
+    give_table_back(l);
+}
+
 static uint32_t *cells(size_t count) {
     uint32_t *table = (uint32_t *)malloc(count * sizeof *table + 1);
     size_t i;
@@ -51,15 +64,33 @@ static uint32_t *cells(size_t count) {
     return table;
 }
 
+static lent_table given_table(size_t count) {
+    lent_table l = lend_table(count, 0);
+    size_t i;
+    for (i = 0; i < count; i++) l.cells[i] = (uint32_t)number();
+    return l;
+}
+
+/* A number that another cell, or two cells exchanged, would change. */
+static uint64_t told_of(const lent_table *l) {
+    uint64_t x = l->length;
+    size_t i;
+    for (i = 0; i < l->length; i++) x = x * UINT64_C(6364136223846793005) + l->cells[i];
+    return x;
+}
+
 static int digit(int c) { return c >= 'a' ? c - 'a' + 10 : c - '0'; }
 
-static uint8_t *bytes(size_t *length) {
-    static char word[16384];
-    uint8_t *made = (uint8_t *)malloc(sizeof word);
-    size_t i;
-    if (made == NULL || scanf("%16383s", word) != 1) broken("bytes are missing");
-    *length = strcmp(word, "-") == 0 ? 0 : strlen(word) / 2;
-    for (i = 0; i < *length; i++) made[i] = (uint8_t)(digit(word[2 * i]) << 4 | digit(word[2 * i + 1]));
+/* Bytes from the input, lent between guard bytes too. A word that fills the whole buffer may be cut, and is refused. */
+static lent bytes(void) {
+    static char word[262144];
+    lent made;
+    size_t i, length;
+    if (scanf("%262143s", word) != 1) broken("bytes are missing");
+    length = strlen(word);
+    if (length == sizeof word - 1) broken("too many bytes");
+    made = lend(strcmp(word, "-") == 0 ? 0 : length / 2, 0);
+    for (i = 0; i < made.length; i++) made.bytes[i] = (uint8_t)(digit(word[2 * i]) << 4 | digit(word[2 * i + 1]));
     return made;
 }
 
@@ -97,27 +128,53 @@ static void plan(const char *which) {
 }
 
 static void read_file(void) {
-    lent plan = lend(size(), PLAN_FROM), answer = lend(size(), ANSWER_FROM);
-    size_t length;
-    uint8_t *file = bytes(&length);
-    printf("%" PRIu64, qpl_read(file, length, plan.bytes, plan.length, answer.bytes, answer.length));
+    lent plan = lend(size(), PLAN_FROM), answer = lend(size(), ANSWER_FROM), file = bytes();
+    printf("%" PRIu64, qpl_read(file.bytes, file.length, plan.bytes, plan.length, answer.bytes, answer.length));
     show(&answer);
     show(&plan);
-    free(file);
+    give_back(&file);
 }
 
 static void write_file(void) {
     uint64_t f[11];
-    lent file;
-    size_t k, length;
-    uint8_t *settings;
+    lent file, settings;
+    size_t k;
     for (k = 0; k < 11; k++) f[k] = number();
     file = lend(size(), PLAN_FROM);
-    settings = bytes(&length);
-    printf("%" PRIu64, qpl_write(f[0], f[1], f[2], f[3], f[4], f[5], f[6], f[7], f[8], f[9], f[10], settings, length, file.bytes,
-                                 file.length));
+    settings = bytes();
+    printf("%" PRIu64, qpl_write(f[0], f[1], f[2], f[3], f[4], f[5], f[6], f[7], f[8], f[9], f[10], settings.bytes, settings.length,
+                                 file.bytes, file.length));
     show(&file);
-    free(settings);
+    give_back(&settings);
+}
+
+static void import_list(void) {
+    uint64_t scans = number(), settings = number();
+    lent_table rates = lend_table(size(), RATES_FROM), distortions = lend_table(size(), DISTORTIONS_FROM);
+    lent scratch = bytes(), text = bytes();
+    printf("%" PRIu64, qpl_import(scans, settings, text.bytes, text.length, rates.cells, rates.length, distortions.cells,
+                                  distortions.length, scratch.bytes, scratch.length));
+    show(&scratch);
+    show_table(&rates);
+    show_table(&distortions);
+    give_back(&text);
+}
+
+static void export_list(void) {
+    uint64_t scans = number(), settings = number();
+    lent text = lend(size(), PLAN_FROM), answer = lend(size(), ANSWER_FROM);
+    size_t rates_length = size(), distortions_length = size();
+    lent_table rates = given_table(rates_length), distortions = given_table(distortions_length);
+    uint64_t told[2];
+    told[0] = told_of(&rates), told[1] = told_of(&distortions);
+    printf("%" PRIu64, qpl_export(scans, settings, rates.cells, rates.length, distortions.cells, distortions.length, text.bytes, text.length,
+                                  answer.bytes, answer.length));
+    show(&answer);
+    show(&text);
+    if (!table_guarded(&rates) || !table_guarded(&distortions)) printf(" GUARD CELLS WRITTEN");
+    if (told_of(&rates) != told[0] || told_of(&distortions) != told[1]) printf(" TABLES WRITTEN");
+    give_table_back(&rates);
+    give_table_back(&distortions);
 }
 
 int main(void) {
@@ -129,6 +186,10 @@ int main(void) {
             read_file();
         else if (strcmp(which, "write") == 0)
             write_file();
+        else if (strcmp(which, "import") == 0)
+            import_list();
+        else if (strcmp(which, "export") == 0)
+            export_list();
         else if (strcmp(which, "ceiling") == 0 || strcmp(which, "multiplier") == 0 || strcmp(which, "minmax") == 0 ||
                  strcmp(which, "average") == 0)
             plan(which);

@@ -1,4 +1,5 @@
-/* Lent buffers for tests: exactly as long as asked, between guard bytes, and filled with a pattern, so that whatever is written shows. */
+/* Lent buffers and tables for tests: exactly as long as asked, between guard bytes or guard cells, and filled with a pattern, so that
+ * whatever is written shows. */
 #ifndef LENT_H
 #define LENT_H
 
@@ -40,6 +41,48 @@ static int lent_guarded(const lent *l) {
 static void give_back(lent *l) {
     free(l->whole);
     l->whole = l->bytes = NULL;
+}
+
+#define GUARD_CELLS 8
+#define GUARD_CELL 0xa5a5a5a5u
+
+typedef struct {
+    uint32_t *whole;
+    uint32_t *cells;
+    size_t length;
+} lent_table;
+
+/* Where the cells of the two tables start: over every legal distortion and rate, and never that of a forbidden one, so that an import writes
+ * no such cell. */
+#define RATES_FROM 2000000000u
+#define DISTORTIONS_FROM 3000000000u
+
+static uint32_t lent_cell(size_t i, uint32_t from) { return from + (uint32_t)i; }
+
+/* A table of no cells is lent as a null pointer. */
+static lent_table lend_table(size_t length, uint32_t from) {
+    lent_table l;
+    size_t i;
+    l.whole = (uint32_t *)malloc((length + 2 * GUARD_CELLS) * sizeof *l.whole);
+    if (l.whole == NULL) exit(2);
+    l.cells = length == 0 ? NULL : l.whole + GUARD_CELLS;
+    l.length = length;
+    for (i = 0; i < GUARD_CELLS; i++) l.whole[i] = l.whole[GUARD_CELLS + length + i] = GUARD_CELL;
+    for (i = 0; i < length; i++) l.whole[GUARD_CELLS + i] = lent_cell(i, from);
+    return l;
+}
+
+/* 0 where a guard cell was written. */
+static int table_guarded(const lent_table *l) {
+    size_t i;
+    for (i = 0; i < GUARD_CELLS; i++)
+        if (l->whole[i] != GUARD_CELL || l->whole[GUARD_CELLS + l->length + i] != GUARD_CELL) return 0;
+    return 1;
+}
+
+static void give_table_back(lent_table *l) {
+    free(l->whole);
+    l->whole = l->cells = NULL;
 }
 
 #endif

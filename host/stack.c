@@ -3,7 +3,8 @@
  * the seventh on) is not. Each must be within QPL_STACK.
  *
  * The calls run on the largest tables, on small ones, on refusals, and on n and d that are consecutive Fibonacci numbers, on which the
- * remainder rule of Euclid goes deepest: two functions of the library call themselves by it.
+ * remainder rule of Euclid goes deepest: two functions of the library call themselves by it. Import and export run on the longest list, on
+ * short ones, and on refusals.
  *
  * So that the measurement is not fooled: a byte that is written with the paint's own value shows under a second paint; a function that takes
  * no stack, and one that fills a known room of it, must come out so; and each call must give back what it should, so that it did its work.
@@ -62,6 +63,10 @@ static const uint8_t paints[] = {0xa5, 0x3c};
 static uint8_t stack[STACK + 16];
 static uint32_t rates[CELLS], distortions[CELLS];
 static uint8_t plan[SCANS], scratch[16 * SCANS], answer[QPL_READ_ANSWER], file[1536];
+/* Of a list: the longest that there is, with room for one line more; and scratch, a byte for each cell. */
+#define LONGEST 6722470
+#define LINE 32
+static uint8_t text[LONGEST + LINE], marks[CELLS];
 
 static int passed, failed;
 
@@ -93,11 +98,12 @@ static size_t depth(void (*f)(void), const uint64_t *arguments, uint64_t *given)
 }
 
 /* The calls, the greatest depth of each so far, and how many runs it is of. */
-enum call { CALL_ROOM, CALL_READ, CALL_WRITE, CALL_CEILING, CALL_MULTIPLIER, CALL_MINMAX, CALL_AVERAGE, CALLS };
-static const char *const names[] = {"qpl_room", "qpl_read", "qpl_write", "qpl_ceiling", "qpl_multiplier", "qpl_minmax", "qpl_average"};
+enum call { CALL_ROOM, CALL_READ, CALL_WRITE, CALL_CEILING, CALL_MULTIPLIER, CALL_MINMAX, CALL_AVERAGE, CALL_IMPORT, CALL_EXPORT, CALLS };
+static const char *const names[] = {"qpl_room",   "qpl_read",    "qpl_write",  "qpl_ceiling", "qpl_multiplier",
+                                    "qpl_minmax", "qpl_average", "qpl_import", "qpl_export"};
 static void (*const functions[])(void) = {(void (*)(void))qpl_room,    (void (*)(void))qpl_read,       (void (*)(void))qpl_write,
                                           (void (*)(void))qpl_ceiling, (void (*)(void))qpl_multiplier, (void (*)(void))qpl_minmax,
-                                          (void (*)(void))qpl_average};
+                                          (void (*)(void))qpl_average, (void (*)(void))qpl_import,     (void (*)(void))qpl_export};
 static size_t deepest[CALLS], runs[CALLS];
 
 static void run(enum call which, const uint64_t *arguments, uint64_t right) {
@@ -212,6 +218,43 @@ static void run_files(uint64_t scans, uint64_t kind, uint64_t n, uint64_t d) {
     run(CALL_WRITE, writing, 14);
 }
 
+/* An export of the tables as they are, which have no forbidden cell, and an import of the list: into the tables that it came from, which
+ * must not move a cell. Then both refused. */
+static void run_lists(uint64_t scans, uint64_t settings) {
+    uint64_t cells = settings + (scans - 1) * settings * settings, length, first = 1, line = cells + 1, k;
+    uint64_t writing[ARGUMENTS] = {scans, settings}, reading[ARGUMENTS] = {scans, settings};
+    uint32_t last = rates[cells - 1];
+    writing[2] = AT(rates), writing[3] = cells, writing[4] = AT(distortions), writing[5] = cells;
+    writing[6] = AT(text), writing[7] = sizeof text, writing[8] = AT(answer), writing[9] = sizeof answer;
+    run(CALL_EXPORT, writing, 0);
+    length = qpl_value(answer, QPL_EXPORT_LENGTH);
+    reading[2] = AT(text), reading[3] = length, reading[4] = AT(rates), reading[5] = cells, reading[6] = AT(distortions), reading[7] = cells;
+    reading[8] = AT(marks), reading[9] = sizeof marks;
+    run(CALL_IMPORT, reading, 0);
+    writing[7] = length;
+    run(CALL_EXPORT, writing, 0);
+    expect("a list that is imported is exported again", qpl_value(answer, QPL_EXPORT_LENGTH) == length);
+    /* one line more: malformed, out of range, and the first line once again */
+    memcpy(text + length, "x", 1), reading[3] = length + 1;
+    run(CALL_IMPORT, reading, 16 | line << 32);
+    memcpy(text + length, "0,,16,0,0", 9), reading[3] = length + 9;
+    run(CALL_IMPORT, reading, 17 | line << 32);
+    while (text[first - 1] != '\n') first++;
+    for (k = 0; k < first; k++) text[length + k] = text[k];
+    reading[3] = length + first;
+    run(CALL_IMPORT, reading, 18 | line << 32);
+    /* scratch, text and a table too short, and an illegal cell */
+    reading[9] = cells - 1;
+    run(CALL_IMPORT, reading, 6);
+    writing[7] = length - 1;
+    run(CALL_EXPORT, writing, 6);
+    rates[cells - 1] = 1048576;
+    run(CALL_EXPORT, writing, 7 | (cells - 1) << 32);
+    rates[cells - 1] = last;
+    writing[3] = cells - 1;
+    run(CALL_EXPORT, writing, 5);
+}
+
 /* A function that takes no stack but its return address, and one that fills a room with a value. */
 static uint64_t nothing(void) { return 7; }
 static uint64_t fills(uint64_t value) {
@@ -256,7 +299,11 @@ int main(void) {
     for (k = 0; k < sizeof sizes / sizeof sizes[0]; k++) {
         run_plans(sizes[k][0], sizes[k][1], 0);
         run_plans(sizes[k][0], sizes[k][1], 1);
+        run_lists(sizes[k][0], sizes[k][1]);
     }
+    for (k = 0; k < CELLS; k++) rates[k] = distortions[k] = 1048575;
+    run_lists(1024, 16);
+    expect("the longest list", qpl_value(answer, QPL_EXPORT_LENGTH) == LONGEST);
     fill(16);
     run_plans(1024, 16, 0);
     run_plans(1024, 16, 1);

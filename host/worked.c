@@ -1,6 +1,7 @@
-/* The worked tables of document 01 ("Bench tables", the "Others" too) and its room figures, through the archive: of
- * planning calls every value, every byte of every buffer, and guard bytes on both sides of each; of files the fields, the settings, the
- * letters, the first packed byte, and guard bytes. What is expected is written out by hand from the document. */
+/* The worked tables of document 01 ("Bench tables", the "Others" too) and its room figures, and lists of table T as document 02, [1], has
+ * them, through the archive: of planning calls every value, every byte of every buffer, and guard bytes on both sides of each; of files the
+ * fields, the settings, the letters, the first packed byte, and guard bytes; of lists every cell and byte, and guards. What is expected is
+ * written out by hand from the documents. */
 #include "lent.h"
 #include "qpl.h"
 
@@ -157,7 +158,8 @@ static void named(void) {
     expect("the names end where the answers do",
            8 * (QPL_ROOM_SCRATCH + 1) == QPL_ROOM_ANSWER && 8 * (QPL_READ_FLOOR + 1) == QPL_READ_ANSWER &&
                8 * (QPL_CEILING_PEAK + 1) == QPL_CEILING_ANSWER && 8 * (QPL_MULTIPLIER_PEAK + 1) == QPL_MULTIPLIER_ANSWER &&
-               8 * (QPL_MINMAX_PEAK + 1) == QPL_MINMAX_ANSWER && 8 * (QPL_AVERAGE_FLOOR + 1) == QPL_AVERAGE_ANSWER);
+               8 * (QPL_MINMAX_PEAK + 1) == QPL_MINMAX_ANSWER && 8 * (QPL_AVERAGE_FLOOR + 1) == QPL_AVERAGE_ANSWER &&
+               8 * (QPL_EXPORT_LENGTH + 1) == QPL_EXPORT_ANSWER);
     qpl_ceiling(2, 2, 0, 7, t_rates, 6, t_distortions, 6, plan, 2, scratch, 4, answer, sizeof answer);
     expect("T, ceiling 7, by name", qpl_value(answer, QPL_CEILING_RATE) == 13 && qpl_value(answer, QPL_CEILING_DISTORTION) == 8 &&
                                         qpl_value(answer, QPL_CEILING_PEAK) == 6);
@@ -213,6 +215,119 @@ static void files(void) {
     give_back(&answer);
 }
 
+/* A list for 2 scans and 2 settings, what its import must give back, and on 0 the six cells of each table. */
+typedef struct {
+    const char *what, *text;
+    uint32_t refusal, line;
+    uint32_t rates[6], distortions[6];
+} expected_list;
+
+#define T_LIST "0,,0,10,2\r\n0,,1,4,7\r\n1,0,0,8,3\r\n1,0,1,3,6\r\n1,1,0,9,4\r\n1,1,1,5,10\r\n"
+#define T_WITHOUT "0,,0,10,2\r\n0,,1,4,7\r\n1,0,0,8,3\r\n1,1,0,9,4\r\n1,1,1,5,10\r\n"
+
+static const expected_list lists[] = {
+    {"T's list", T_LIST, 0, 0, {10, 4, 8, 3, 9, 5}, {2, 7, 3, 6, 4, 10}},
+    {"T's list without cell 3", T_WITHOUT, 0, 0, {10, 4, 8, F, 9, 5}, {2, 7, 3, 0, 4, 10}},
+    {"one line without its end", "0,,0,10,2", 0, 0, {10, F, F, F, F, F}, {2}},
+    {"every field in quotes, and leading zeros", "\"0\",\"\",\"1\",\"0000004\",\"7\"\r\n", 0, 0, {F, 4, F, F, F, F}, {0, 7}},
+    {"no lines", "", 0, 0, {F, F, F, F, F, F}, {0}},
+    {"an LF by itself", "0,,0,10,2\n", 16, 1, {0}, {0}},
+    {"scan 0 with a previous setting", "0,0,0,10,2\r\n", 16, 1, {0}, {0}},
+    {"scan 1 without one", "1,,0,8,3\r\n", 16, 1, {0}, {0}},
+    {"a scan that is out of range without one", "2,,0,1,1\r\n", 16, 1, {0}, {0}},
+    {"a sixth field", "0,,0,10,2,\r\n", 16, 1, {0}, {0}},
+    {"a scan out of range", "2,0,0,1,1\r\n", 17, 1, {0}, {0}},
+    {"a rate out of range", "0,,0,1048576,0\r\n", 17, 1, {0}, {0}},
+    {"a setting out of range, before a malformed line", "0,,2,1,1\r\nx", 17, 1, {0}, {0}},
+    {"a second line for a cell", "0,,0,10,2\r\n0,,00,10,2\r\n", 18, 2, {0}, {0}},
+    {"a second line for a cell, with a rate out of range", "0,,0,10,2\r\n0,,00,1048576,2\r\n", 17, 2, {0}, {0}},
+    {"an empty line at the end", "0,,0,10,2\r\n\r\n", 16, 2, {0}, {0}},
+};
+
+/* Every cell: as it was from `kept` on; before that the given cells. */
+static int holds_cells(const lent_table *l, size_t kept, const uint32_t *given, uint32_t from) {
+    size_t i;
+    if (!table_guarded(l)) return 0;
+    for (i = 0; i < l->length; i++)
+        if (l->cells[i] != (i >= kept ? lent_cell(i, from) : given[i])) return 0;
+    return 1;
+}
+
+/* An import into tables and scratch of these lengths. */
+static int imports(const expected_list *e, uint64_t scans, uint64_t settings, size_t r, size_t d, size_t s) {
+    lent_table rates = lend_table(r, RATES_FROM), distortions = lend_table(d, DISTORTIONS_FROM);
+    lent scratch = lend(s, 100);
+    uint64_t given = qpl_import(scans, settings, (const uint8_t *)e->text, strlen(e->text), rates.cells, rates.length, distortions.cells,
+                                distortions.length, scratch.bytes, scratch.length);
+    int good = qpl_refusal(given) == e->refusal && qpl_carried(given) == e->line;
+    good = good && holds_cells(&rates, e->refusal == 0 ? 6 : 0, e->rates, RATES_FROM);
+    good = good && holds_cells(&distortions, e->refusal == 0 ? 6 : 0, e->distortions, DISTORTIONS_FROM);
+    good = good && holds(&scratch, e->refusal == 0 || e->refusal >= 16 ? 6 : 0, NULL, 100);
+    give_table_back(&rates);
+    give_table_back(&distortions);
+    give_back(&scratch);
+    return good;
+}
+
+/* An export into a text of so many bytes, which must be this list; or a refusal, after which text and answer are as they were. */
+static int exports(const uint32_t *rates, size_t r, const uint32_t *distortions, size_t d, size_t length, size_t answer_length,
+                   uint64_t right, const char *list) {
+    lent text = lend(length, 13), answer = lend(answer_length, 50);
+    uint64_t given = qpl_export(2, 2, rates, r, distortions, d, text.bytes, text.length, answer.bytes, answer.length);
+    uint8_t value[QPL_EXPORT_ANSWER];
+    size_t k, n = strlen(list);
+    int good = given == right;
+    for (k = 0; k < sizeof value; k++) value[k] = (uint8_t)((uint64_t)n >> 8 * k);
+    good = good && holds(&text, right == 0 ? n : 0, (const uint8_t *)list, 13);
+    good = good && holds(&answer, right == 0 ? sizeof value : 0, value, 50);
+    give_back(&text);
+    give_back(&answer);
+    return good;
+}
+
+static void import_export(void) {
+    static const uint32_t without[] = {10, 4, 8, F, 9, 5}, beside[] = {2, 7, 3, 777, 4, 10}, none[] = {F, F, F, F, F, F};
+    static const uint32_t illegal[] = {10, 4, 8, 3, 1048576, F - 1};
+    static const expected_list one = {"", T_LIST, 1, 0, {0}, {0}}, two = {"", T_LIST, 2, 0, {0}, {0}}, six = {"", "x", 6, 0, {0}, {0}};
+    uint8_t answer[QPL_EXPORT_ANSWER] = {0}, text[66] = {0};
+    size_t k;
+    for (k = 0; k < sizeof lists / sizeof lists[0]; k++) {
+        expect(lists[k].what, imports(&lists[k], 2, 2, 6, 6, 6));
+        expect(lists[k].what, imports(&lists[k], 2, 2, 7, 8, 15));
+    }
+    expect("import: N out of range", imports(&one, 0, 0, 6, 6, 6) && imports(&one, 1025, 2, 6, 6, 6) &&
+                                         imports(&one, (UINT64_C(1) << 32) + 2, 2, 6, 6, 6) && imports(&one, UINT64_MAX, 17, 0, 0, 0));
+    expect("import: Q out of range", imports(&two, 2, 0, 6, 6, 6) && imports(&two, 2, 17, 0, 6, 6) &&
+                                         imports(&two, 2, (UINT64_C(1) << 32) + 2, 6, 6, 6) && imports(&two, 1, UINT64_MAX, 6, 6, 6));
+    expect("import: a short table or scratch", imports(&six, 2, 2, 5, 6, 6) && imports(&six, 2, 2, 6, 5, 6) &&
+                                                   imports(&six, 2, 2, 6, 6, 5) && imports(&six, 2, 2, 0, 0, 0) &&
+                                                   imports(&six, 1024, 16, 6, 6, 6));
+    expect("export: T", exports(t_rates, 6, t_distortions, 6, 66, 8, 0, T_LIST) && exports(t_rates, 6, t_distortions, 6, 90, 17, 0, T_LIST));
+    expect("export: T into 65 bytes", exports(t_rates, 6, t_distortions, 6, 65, 8, 6, ""));
+    expect("export: T with cell 3 forbidden, and 777 beside it",
+           exports(without, 6, beside, 6, 55, 8, 0, T_WITHOUT) && exports(without, 6, beside, 6, 60, 8, 0, T_WITHOUT) &&
+               exports(without, 6, beside, 6, 54, 8, 6, ""));
+    expect("export: all forbidden, into no bytes", exports(none, 6, beside, 6, 0, 8, 0, "") && exports(none, 6, none, 6, 3, 8, 0, ""));
+    expect("export: an answer buffer of 7 bytes or none",
+           exports(t_rates, 6, t_distortions, 6, 66, 7, 6, "") && exports(t_rates, 6, t_distortions, 6, 66, 0, 6, "") &&
+               exports(none, 6, beside, 6, 0, 7, 6, "") && exports(none, 6, beside, 6, 0, 0, 6, ""));
+    expect("export: the lowest illegal cell, before 6",
+           exports(illegal, 6, t_distortions, 6, 90, 8, 7 | UINT64_C(4) << 32, "") &&
+               exports(illegal, 6, t_distortions, 6, 0, 0, 7 | UINT64_C(4) << 32, "") &&
+               exports(t_rates, 6, none, 6, 66, 8, 7, ""));
+    expect("export: tables of another length, before 7", exports(illegal, 5, t_distortions, 6, 90, 8, 5, "") &&
+                                                             exports(illegal, 6, t_distortions, 5, 0, 0, 5, "") &&
+                                                             exports(NULL, 0, NULL, 0, 0, 0, 5, ""));
+    expect("export: N out of range", qpl_export(0, 17, illegal, 6, t_distortions, 5, text, 66, answer, 8) == 1 &&
+                                         qpl_export((UINT64_C(1) << 32) + 2, 2, t_rates, 6, t_distortions, 6, text, 66, answer, 8) == 1);
+    expect("export: Q out of range", qpl_export(2, 17, illegal, 6, t_distortions, 5, text, 66, answer, 8) == 2 &&
+                                         qpl_export(2, (UINT64_C(1) << 32) + 2, t_rates, 6, t_distortions, 6, text, 66, answer, 8) == 2);
+    expect("export: nothing was answered", answer[0] == 0 && text[0] == 0);
+    qpl_export(2, 2, t_rates, 6, t_distortions, 6, text, sizeof text, answer, sizeof answer);
+    expect("T's list, its length by name", qpl_value(answer, QPL_EXPORT_LENGTH) == sizeof text && memcmp(text, T_LIST, sizeof text) == 0);
+    expect("import: no text", qpl_import(2, 2, NULL, 0, NULL, 0, NULL, 0, NULL, 0) == 6);
+}
+
 int main(void) {
     size_t k;
     for (k = 0; k < sizeof all / sizeof all[0]; k++) {
@@ -231,6 +346,7 @@ int main(void) {
     expect("an answer buffer of 23 bytes", room_refused(1, 1, 1, 23, 6) && room_refused(1, 1, 1, 0, 6) && room_refused(1, 1, 0, 23, 2));
     named();
     files();
+    import_export();
     printf("%d passed, %d failed\n", passed, failed);
     return failed != 0;
 }

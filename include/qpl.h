@@ -1,4 +1,4 @@
-/* qpl.h: settings for a series of scans, the room that they take, and plan files.
+/* qpl.h: settings for a series of scans, the room that they take, plan files, and tables as lists.
  *
  * Archive: libqpl.a, for x86-64. Every function is proved to meet its contract in crates/qpl/src/lib.rt, for arguments of any content, and to
  * end; the words here say the same, and what the proofs assume of a host is said below. A call keeps nothing between calls and takes no
@@ -27,6 +27,9 @@
  *   12  a block's number or check is wrong; carries the lowest such block
  *   13  a header field breaks its rule; carries the lowest byte of the first such field
  *   14  an entry or filler breaks its rule; carries its entry number
+ *   16  a line of a list is malformed; carries its line number, from 1
+ *   17  a number in a line of a list is out of range; carries its line number, from 1
+ *   18  a line of a list is the second for its cell; carries its line number, from 1
  *
  * What a call answers goes to the buffer `answer`: values of eight bytes each, low byte first, in the order given (qpl_value reads one).
  * A refusal changes no byte of it, and bytes past the answer never change.
@@ -35,14 +38,15 @@
  *  - a pointer is valid for the whole length that goes with it, for the whole call, also where that length is one that the call refuses;
  *    rates_length and distortions_length count cells, every other length counts bytes; what a pointer points to takes fewer than 2^63 bytes.
  *    A null pointer with length 0 is allowed;
- *  - every byte and every cell that is lent holds a value, in buffers that a call only writes too: no memory that was never initialised;
- *  - no buffer that a call may write overlaps anything else that is lent to that call, and nothing else changes what is lent while the call
- *    runs;
+ *  - every byte and every cell that is lent holds a value, in buffers and tables that a call only writes too: no memory that was never
+ *    initialised;
+ *  - nothing that a call may write, buffer or table (what it takes by a pointer that is not to const), overlaps anything else that is lent to
+ *    that call, and nothing else changes what is lent while the call runs. Tables are written by qpl_import alone;
  *  - tables of 32-bit cells are aligned as C aligns uint32_t. Bytes need no alignment.
  * Numbers are 64 bits wide, so that none is cut before it is checked, but for cells and the ceiling of qpl_ceiling, which have 32 bits.
  *
- * The scope of the library names the room question and the reader for C hosts, "with numbers and byte slices". The writer and the four
- * planning calls go beyond that, and so do the slices of 32-bit cells.
+ * The scope of the library names the room question and the reader for C hosts, "with numbers and byte slices". The writer, the four planning
+ * calls, and import and export go beyond that, and so do the slices of 32-bit cells.
  */
 #ifndef QPL_H
 #define QPL_H
@@ -61,14 +65,16 @@ extern "C" {
 #define QPL_MULTIPLIER_ANSWER 24
 #define QPL_MINMAX_ANSWER 32
 #define QPL_AVERAGE_ANSWER 48
+#define QPL_EXPORT_ANSWER 8
 
 /* A call takes at most this much stack, in bytes from the caller's stack pointer at the call. That is measured, and not proved.
  *
  * host/stack.c runs the calls of the x86-64 archive on a painted stack and finds the deepest byte that changed, the return address counted:
- * room 96, read 688, write 624, ceiling 5,520, multiplier 5,536, minmax 5,568, average 5,680. It runs the largest tables, small ones,
- * refusals, and n and d that are consecutive Fibonacci numbers. The frames in the disassembly, read by hand, all have fixed sizes and agree to
- * 3 bytes: the deepest chain of calls, from qpl_average through the pass to the choice of a row, takes 5,683. One function calls itself (the
- * lowest terms of n/d): 64 bytes each time, at most 44 times, and never while a pass is on the stack. The common divisor has become a loop.
+ * room 96, read 688, write 624, ceiling 5,520, multiplier 5,536, minmax 5,568, average 5,680, import 376, export 528. It runs the largest
+ * tables, small ones, refusals, and n and d that are consecutive Fibonacci numbers. The frames in the disassembly, read by hand, all have
+ * fixed sizes and agree to 16 bytes: the deepest chain of calls, from qpl_average through the pass to the choice of a row, takes 5,683. Two
+ * functions call themselves: the lowest terms of n/d, 64 bytes each time, at most 44 times, and never while a pass is on the stack; and the
+ * digits of a number in qpl_export, 48 bytes each time, at most 7 times. The common divisor has become a loop.
  *
  * The figures are of the archive as rattle-kit-5b compiles it, seen under the kit's emulator with its C library, whose memcpy and memset are
  * counted as they ran; host/run measures the archive at hand. The stack of a loader that binds the two at their first call comes on top. */
@@ -93,6 +99,7 @@ enum { QPL_CEILING_RATE, QPL_CEILING_DISTORTION, QPL_CEILING_PEAK };
 enum { QPL_MULTIPLIER_RATE, QPL_MULTIPLIER_DISTORTION, QPL_MULTIPLIER_PEAK };
 enum { QPL_MINMAX_CEILING, QPL_MINMAX_RATE, QPL_MINMAX_DISTORTION, QPL_MINMAX_PEAK };
 enum { QPL_AVERAGE_N, QPL_AVERAGE_D, QPL_AVERAGE_RATE, QPL_AVERAGE_DISTORTION, QPL_AVERAGE_PEAK, QPL_AVERAGE_FLOOR };
+enum { QPL_EXPORT_LENGTH };
 
 /* The kinds of a plan file: what an average call answers, and what a minmax call does. */
 enum { QPL_KIND_AVERAGE = 0, QPL_KIND_MINMAX = 1 };
@@ -187,6 +194,34 @@ uint64_t qpl_minmax(uint64_t scans, uint64_t settings, uint64_t law, uint64_t bu
 uint64_t qpl_average(uint64_t scans, uint64_t settings, uint64_t law, uint64_t budget, const uint32_t *rates, size_t rates_length,
                      const uint32_t *distortions, size_t distortions_length, uint8_t *plan, size_t plan_length, uint8_t *scratch,
                      size_t scratch_length, uint8_t *answer, size_t answer_length);
+
+/* Lists: what the trial encoder measured, one line for each cell: scan, previous setting, setting, rate, distortion, parted by commas, with
+ * line ends and quotes as in RFC 4180 and no heading line. The cells are those of the planning calls.
+ *
+ * A line ends in CR LF, which the last line may lack; a text of no bytes has no lines. A field is one to seven decimal digits, leading zeros
+ * among them. The previous setting is an empty field where the scan is 0, and only there. Any field may stand in double quotes, an empty one
+ * too. All else is malformed (16): an empty line, fewer or more than five fields, a CR or an LF by itself, blanks, signs, any other byte. Out
+ * of range (17) are a scan from `scans` on, a setting or previous setting from `settings` on, and a rate or distortion over 1,048,575, so that
+ * no list names a forbidden cell. A second line for a cell is 18, with the same numbers too. */
+
+/* Reads a list of any bytes and any length into both tables. There is no answer beside them.
+ * rates and distortions need the cells of one table, scratch as many bytes: what qpl_room answers first, and not what it says of scratch.
+ * They may be longer.
+ * Refusals, the first that applies: 1, 2, 6 (rates, distortions or scratch too short), and then of the first line that has any: 16, 17, 18.
+ * On 0 the cells of one table, in rates and in distortions, are what the list says: a cell with no line has rate QPL_FORBIDDEN and
+ * distortion 0; what is lent past them is as it was. On a refusal all of both tables is as it was. On 0, 16, 17 and 18 the bytes of scratch
+ * that are needed are zero and the rest is as it was; on 1, 2 and 6 all of scratch is as it was. */
+uint64_t qpl_import(uint64_t scans, uint64_t settings, const uint8_t *text, size_t text_length, uint32_t *rates, size_t rates_length,
+                    uint32_t *distortions, size_t distortions_length, uint8_t *scratch, size_t scratch_length);
+
+/* Writes the list of both tables: a line for each cell that is not forbidden, in the order of cells, with no quotes and no leading zeros,
+ * and CR LF after each. No list takes more than 28 bytes for each cell of a table, and none more than 6,722,470 in all.
+ * Answer (8 bytes): the length of the list in bytes.
+ * Refusals, the first that applies: 1, 2, 5, 7, 6 (text shorter than the list, or answer under 8 bytes, also where the list has no bytes).
+ * On 0 the first bytes of text are the list and the rest is as it was; on a refusal all of text is as it was. What is written is imported as
+ * the same tables, but for the distortion beside a forbidden rate, which is then 0. */
+uint64_t qpl_export(uint64_t scans, uint64_t settings, const uint32_t *rates, size_t rates_length, const uint32_t *distortions,
+                    size_t distortions_length, uint8_t *text, size_t text_length, uint8_t *answer, size_t answer_length);
 
 #ifdef __cplusplus
 }

@@ -57,7 +57,7 @@ def generated(lengths, rates, distortions):
 
 
 def stream(size, seed, base, span, forbid):
-    """A generator's cells, as cells.rt draws them."""
+    """A generator's cells, as crates/shown/src/stream.rt draws them."""
     x, out = seed % PRIME, []
     for _ in range(size):
         x = x * 48271 % PRIME

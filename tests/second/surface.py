@@ -1,6 +1,7 @@
 #!/usr/bin/env python3
 """What the calls of the C surface must give back and leave, from include/qpl.h and document 01, sharing nothing with the library."""
 
+import lists
 import planfile
 import planner
 import room
@@ -8,7 +9,7 @@ from planner import AVERAGE, CEILING, MINMAX, MULTIPLIER
 
 NAMES = {CEILING: "ceiling", MULTIPLIER: "multiplier", MINMAX: "minmax", AVERAGE: "average"}
 NEEDS = {CEILING: 24, MULTIPLIER: 24, MINMAX: 32, AVERAGE: 48}
-ROOM_NEEDS, READ_NEEDS = 24, 88
+ROOM_NEEDS, READ_NEEDS, EXPORT_NEEDS = 24, 88, 8
 
 # Document 01's orders: a buffer that is too short is 6, after these and before all others.
 BEFORE_ROOM = {1, 2, 3, 4, 5, 11, 12, 13}
@@ -58,3 +59,20 @@ def read_call(file, plan, answer):
 def write_call(f, settings, file):
     number, values, file = planfile.write(f, settings, file)
     return (word(number, values[0]) if number else 0), file
+
+
+def import_call(scans, settings, text, rates, distortions, scratch):
+    """The number, and rates, distortions and scratch."""
+    number, values, *after = lists.import_list(scans, settings, text, rates, distortions, scratch)
+    return (word(number, values[0]) if number else 0), *after
+
+
+def export_call(scans, settings, rates, distortions, text, answer):
+    """The number, and the buffers answer and text. A short answer buffer is 6 where a short text is, and so after 7: an export of no bytes
+    needs no text, and an answer buffer all the same."""
+    number, values, after = lists.export_list(scans, settings, rates, distortions, text)
+    if number:
+        return word(number, values[0]), answer, text
+    if len(answer) < EXPORT_NEEDS:
+        return word(6, 0), answer, text
+    return 0, with_values(values, answer), after

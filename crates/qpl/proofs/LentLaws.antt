@@ -12,6 +12,8 @@ use Rattle.blocks.specs.File.{entry-at}
 use Rattle.planfile.proofs.Accepted.{passed}
 use Rattle.promise.specs.Promise.{Promise, unsound, no-sequence, none-within, planned}
 use Rattle.checks.specs.Planning.{asking}
+use Rattle.exports.specs.Export.{export-text, export-refusal, text-after}
+use Rattle.exports.proofs.ExportLaws.{export-room}
 use Rattle.checks.proofs.GiveLaws.{Gives}
 use Rattle.checks.proofs.PlanningLaws.{sound-plan}
 use Rattle.telling.specs.Told.{Told, lent}
@@ -83,3 +85,16 @@ read-whole file settings room {p = p} e f =
     of none g f = handed-front room (fields-of file .scans) (entries (entry-at file) 0 (fields-of file .scans)) settings
         (passed file (length (take room settings)) g .enough) f
     of (some r) g f = same-front room settings f
+
+-- the text of an export
+pub text-whole : (N Q : ℕ) (rates distortions text : List ℕ) (room : ℕ) {m : ℕ} {p : List ℕ} → length (take room text) ≡ m →
+    p ≡ text-after (export-refusal N Q rates distortions (length (take room text))) N Q rates distortions (take room text) →
+    p ++ drop room text ≡ text-after (export-refusal N Q rates distortions m) N Q rates distortions text
+text-whole N Q rates distortions text room {p = p} e f =
+    of (export-refusal N Q rates distortions (length (take room text))) refl f
+    ∙ ap (λ (k : ℕ). text-after (export-refusal N Q rates distortions k) N Q rates distortions text) e
+  where
+    of : (o : Option Refusal) → export-refusal N Q rates distortions (length (take room text)) ≡ o → p ≡ text-after o N Q rates distortions (take room text) →
+        p ++ drop room text ≡ text-after o N Q rates distortions text
+    of none g f = handed-front room (length (export-text N Q rates distortions)) (export-text N Q rates distortions) text (export-room N Q rates distortions (length (take room text)) g) f
+    of (some r) g f = same-front room text f

@@ -1,7 +1,10 @@
 // The C surface (include/qpl.h): the room question, the reader and the writer of plan files, and the four planning calls. Each function is
 // one call of the layer below. It gives back 0, or a refusal's number with what it carries in the high 32 bits; what it answers goes to a
 // lent buffer.
+use checks::stage::Stage;
 use checks::stage::then;
+use exports::export::export;
+use imports::import::import;
 use keys::cost::Dist;
 use keys::cost::Rate;
 use planfile::read::read_plan;
@@ -16,6 +19,7 @@ use rules::Fields;
 use tables::refusal::Refusal;
 use telling::Answer;
 use telling::average_answer;
+use telling::export_answer;
 use telling::lent;
 use telling::minmax_answer;
 use telling::plan_answer;
@@ -25,14 +29,18 @@ use telling::tell;
 use telling::word;
 ghost use mathlib.Core.Path.{_≡_};
 ghost use Prim.Native.Nat.{_≤_};
+ghost use mathlib.Core.List.{[]};
 ghost use lib.ListN.{length};
 ghost use Rattle.checks.specs.Planning.{asking};
 ghost use Rattle.promise.specs.Promise.{CeilingPromise, MultiplierPromise, MinmaxPromise, AveragePromise, «plan-reply», «minmax-reply», «average-reply»};
 ghost use Rattle.planfile.specs.Reading.{«read-of», «read-refusal», «settings-after»};
+ghost use Rattle.checks.specs.Checks.{«or-answer»};
+ghost use Rattle.imports.specs.Import.{«import-of»};
+ghost use Rattle.exports.specs.Export.{«export-refusal», «text-after»};
 ghost use Rattle.planfile.specs.Writing.{«write-of», «write-refusal», «file-after»};
 ghost use Rattle.telling.specs.Told.{Told, «word-of», lent as Lent};
 ghost use Rattle.telling.specs.Parts.{«answer-reply»};
-ghost use Rattle.qpl.specs.Surface.{Tells, «room-told», «fields-told»};
+ghost use Rattle.qpl.specs.Surface.{Tells, «room-told», «export-told», «fields-told»};
 
 // The room question, with the answer buffer as the last thing asked for.
 fn room_told(channels: u64, scans: u64, settings: u64, answer: usize) -> Answer
@@ -55,6 +63,69 @@ pub extern "C" fn qpl_room(channels: u64, scans: u64, settings: u64, answer: &mu
     ensures { λ r. ⌜ Told (room-told channels scans settings (length (now (answer .entry)))) (now (answer .entry)) r (now (answer .exit)) ⌝ }
 {
     let told = room_told(channels, scans, settings, answer.len());
+    tell(told, answer)
+}
+
+// An encoder's list into the two tables. Nothing but 0 or a refusal goes back.
+#[no_mangle]
+pub extern "C" fn qpl_import(
+    scans: u64,
+    settings: u64,
+    text: &[u8],
+    rates: &mut [u32],
+    distortions: &mut [u32],
+    scratch: &mut [u8],
+) -> u64
+    ensures { λ r. ⌜ r ≡ word-of (or-answer (import-of scans settings (now (text .entry)) (now (rates .entry)) (now (distortions .entry)) (now (scratch .entry)) .ends) []) ⌝ }
+    ensures { λ _. ⌜ now (rates .exit) ≡ import-of scans settings (now (text .entry)) (now (rates .entry)) (now (distortions .entry)) (now (scratch .entry)) .rates ⌝ }
+    ensures { λ _. ⌜ now (distortions .exit) ≡ import-of scans settings (now (text .entry)) (now (rates .entry)) (now (distortions .entry)) (now (scratch .entry)) .distortions ⌝ }
+    ensures { λ _. ⌜ now (scratch .exit) ≡ import-of scans settings (now (text .entry)) (now (rates .entry)) (now (distortions .entry)) (now (scratch .entry)) .scratch ⌝ }
+{
+    let stage = import(scans, settings, text, rates, distortions, scratch);
+    let Stage::Stopped(refusal) = stage else {
+        return 0;
+    };
+    word(refusal)
+}
+
+// The export, with the answer buffer as the last thing asked for.
+fn export_told(
+    scans: u64,
+    settings: u64,
+    rates: &[u32],
+    distortions: &[u32],
+    text: &mut [u8],
+    answer: usize,
+) -> Answer
+    ensures { λ r. ⌜ (answer-reply r ≡ export-told scans settings (now (rates .entry)) (now (distortions .entry)) (length (now (text .entry))) answer) × (r .count ≤ 11) ⌝ }
+    ensures { λ _. ⌜ now (text .exit) ≡ text-after (export-refusal scans settings (now (rates .entry)) (now (distortions .entry)) (Lent 8 answer (length (now (text .entry))))) scans settings (now (rates .entry)) (now (distortions .entry)) (now (text .entry)) ⌝ }
+{
+    let room = lent(8, answer, text.len());
+    let told = export_answer(export(scans, settings, rates, distortions, &mut text[..room]));
+    let asked = told.ended;
+    let values = told.values;
+    let ended = then(asked, answer < 8, Refusal::Buffer);
+    Answer {
+        ended,
+        values,
+        count: told.count,
+    }
+}
+
+// the length
+#[no_mangle]
+pub extern "C" fn qpl_export(
+    scans: u64,
+    settings: u64,
+    rates: &[u32],
+    distortions: &[u32],
+    text: &mut [u8],
+    answer: &mut [u8],
+) -> u64
+    ensures { λ r. ⌜ Told (export-told scans settings (now (rates .entry)) (now (distortions .entry)) (length (now (text .entry))) (length (now (answer .entry)))) (now (answer .entry)) r (now (answer .exit)) ⌝ }
+    ensures { λ _. ⌜ now (text .exit) ≡ text-after (export-refusal scans settings (now (rates .entry)) (now (distortions .entry)) (Lent 8 (length (now (answer .entry))) (length (now (text .entry))))) scans settings (now (rates .entry)) (now (distortions .entry)) (now (text .entry)) ⌝ }
+{
+    let told = export_told(scans, settings, rates, distortions, text, answer.len());
     tell(told, answer)
 }
 

@@ -2,6 +2,7 @@
 //
 // Every byte is shown: a run of bytes that are as they were filled as "k", how many, and a full stop; a run of zeros as "z", how many, and a
 // full stop; any other byte by its two hexadecimal digits.
+use crate::number::put_marked;
 use libc::STDOUT_FILENO;
 ghost use Prim.Native.Nat.{_*_, _≤_, _<_};
 ghost use lib.ListN.{length};
@@ -66,23 +67,12 @@ fn put_digits(bytes: &[u8]) {
     put_part(&bytes[i..]);
 }
 
-fn put_count(n: usize) {
-    io::print_decimal(STDOUT_FILENO, n as u64);
-    io::write_all(STDOUT_FILENO, b".");
-}
-
 fn put_run(bytes: &[u8], kind: u64) {
-    if kind == 0 {
-        io::write_all(STDOUT_FILENO, b"k");
-        put_count(bytes.len());
-        return;
+    match kind {
+        0 => put_marked(b"k", bytes.len() as u64),
+        1 => put_marked(b"z", bytes.len() as u64),
+        _ => put_digits(bytes),
     }
-    if kind == 1 {
-        io::write_all(STDOUT_FILENO, b"z");
-        put_count(bytes.len());
-        return;
-    }
-    put_digits(bytes);
 }
 
 // 0: as it was filled. 1: zero. 2: anything else.

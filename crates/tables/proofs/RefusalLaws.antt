@@ -7,7 +7,7 @@ use native.Mathlib.Omega.{arith}
 use lib.Dec.{eqb}
 use lib.ListN.{getD}
 use Rattle.tables.specs.declared.refusal.Refusal.{Refusal}
-use Rattle.tables.specs.declared.refusal.Refusal.the-variants.{Scans, Settings, StepLaw, Multiplier, Lengths, Buffer, Cell, NoSequence, NoneWithin, Channels, FileLength, Block, Header, Entry}
+use Rattle.tables.specs.declared.refusal.Refusal.the-variants.{Scans, Settings, StepLaw, Multiplier, Lengths, Buffer, Cell, NoSequence, NoneWithin, Channels, FileLength, Block, Header, Entry, Malformed, OutOfRange, Twice}
 use Rattle.tables.specs.Refusals.{Reply, refused, answered, numberOf, carriedBy}
 
 -- the refusal of a number that carries k
@@ -25,7 +25,10 @@ refusal-of n k =
     (cond (eqb n 10) Channels
     (cond (eqb n 11) FileLength
     (cond (eqb n 12) (Block k)
-    (cond (eqb n 13) (Header k) (Entry k)))))))))))))
+    (cond (eqb n 13) (Header k)
+    (cond (eqb n 14) (Entry k)
+    (cond (eqb n 16) (Malformed k)
+    (cond (eqb n 17) (OutOfRange k) (Twice k))))))))))))))))
 
 pub refusal-back : (r : Refusal) → refusal-of (numberOf r) (carriedBy r) ≡ r
 refusal-back Scans = refl
@@ -42,6 +45,9 @@ refusal-back FileLength = refl
 refusal-back (Block b) = refl
 refusal-back (Header byte) = refl
 refusal-back (Entry e) = refl
+refusal-back (Malformed line) = refl
+refusal-back (OutOfRange line) = refl
+refusal-back (Twice line) = refl
 
 pub refused-unique : {r r′ : Refusal} → refused r ≡ refused r′ → r ≡ r′
 refused-unique {r} {r′} e =
@@ -62,6 +68,9 @@ never-zero FileLength e = omega arith
 never-zero (Block b) e = omega arith
 never-zero (Header byte) e = omega arith
 never-zero (Entry k) e = omega arith
+never-zero (Malformed line) e = omega arith
+never-zero (OutOfRange line) e = omega arith
+never-zero (Twice line) e = omega arith
 
 -- an answer is no refusal
 pub answered-or-refused : {v : List ℕ} (r : Refusal) → answered v ≡ refused r → ⊥

@@ -1,8 +1,8 @@
--- Document 01, "Numbers a caller can get back". Assumes nothing.
+-- Document 01, "Numbers a caller can get back", and what document 02 adds to them. Assumes nothing.
 use mathlib.Core.List.{List, [], _∷_}
 use Prim.Native.Nat.{ℕ}
 use Rattle.tables.specs.declared.refusal.Refusal.{Refusal}
-use Rattle.tables.specs.declared.refusal.Refusal.the-variants.{Scans, Settings, StepLaw, Multiplier, Lengths, Buffer, Cell, NoSequence, NoneWithin, Channels, FileLength, Block, Header, Entry}
+use Rattle.tables.specs.declared.refusal.Refusal.the-variants.{Scans, Settings, StepLaw, Multiplier, Lengths, Buffer, Cell, NoSequence, NoneWithin, Channels, FileLength, Block, Header, Entry, Malformed, OutOfRange, Twice}
 
 -- the column "No."
 abbrev pub numberOf : Refusal → ℕ
@@ -20,6 +20,9 @@ numberOf FileLength = 11
 numberOf (Block b) = 12
 numberOf (Header byte) = 13
 numberOf (Entry e) = 14
+numberOf (Malformed line) = 16
+numberOf (OutOfRange line) = 17
+numberOf (Twice line) = 18
 
 -- the column "Carries", and 0 where that is empty
 abbrev pub carriedBy : Refusal → ℕ
@@ -37,6 +40,9 @@ carriedBy FileLength = 0
 carriedBy (Block b) = b
 carriedBy (Header byte) = byte
 carriedBy (Entry e) = e
+carriedBy (Malformed line) = line
+carriedBy (OutOfRange line) = line
+carriedBy (Twice line) = line
 
 -- What a caller gets back from any call: 0 and the values of an answer, or a refusal's number and what it carries.
 pub record Reply : Type 0 where

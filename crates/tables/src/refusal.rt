@@ -31,6 +31,12 @@ pub enum Refusal {
     Header(u64),
     // 14: an entry or filler breaks its rule; its entry number
     Entry(u64),
+    // 16: a line of a list is malformed; its number from 1
+    Malformed(u64),
+    // 17: a number of a line is out of range; the line's number
+    OutOfRange(u64),
+    // 18: a line names a cell that one before it named; the line's number
+    Twice(u64),
 }
 
 // Document 01's number of a refusal.
@@ -52,6 +58,9 @@ pub fn number(r: Refusal) -> u64
         Refusal::Block(_) => 12,
         Refusal::Header(_) => 13,
         Refusal::Entry(_) => 14,
+        Refusal::Malformed(_) => 16,
+        Refusal::OutOfRange(_) => 17,
+        Refusal::Twice(_) => 18,
     }
 }
 
@@ -74,5 +83,8 @@ pub fn carried(r: Refusal) -> u64
         Refusal::Block(b) => b,
         Refusal::Header(byte) => byte,
         Refusal::Entry(e) => e,
+        Refusal::Malformed(line) => line,
+        Refusal::OutOfRange(line) => line,
+        Refusal::Twice(line) => line,
     }
 }

@@ -43,7 +43,7 @@ value-more d v i h e f =
     ∙ sets-append d (eights (take i v)) (le 8 x) 0 (8 * i) long
     ∙ ap (sets d 0) (eights-more v i h ∙ ap (λ (n : ℕ). eights (take n v)) (sym (add-one i)))
 
-pub number-small : (r : Refusal) → numberOf r ≤ 14
+pub number-small : (r : Refusal) → numberOf r ≤ 18
 number-small refusal.Scans = omega arith
 number-small refusal.Settings = omega arith
 number-small refusal.StepLaw = omega arith
@@ -58,6 +58,9 @@ number-small refusal.FileLength = omega arith
 number-small (refusal.Block b) = omega arith
 number-small (refusal.Header byte) = omega arith
 number-small (refusal.Entry e) = omega arith
+number-small (refusal.Malformed line) = omega arith
+number-small (refusal.OutOfRange line) = omega arith
+number-small (refusal.Twice line) = omega arith
 
 pub word-refused : (r : Refusal) → word-of (refused r) ≡ numberOf r + 4294967296 * carriedBy r
 unfolding word-of

@@ -1,6 +1,7 @@
 // What goes back to a host: a number, and the values of an answer in the buffer that it lent, eight bytes each.
 use bytes::numbers::put_eight;
 use checks::stage::Stage;
+use exports::export::ExportAnswer;
 use planfile::read::ReadAnswer;
 use promise::AverageAnswer;
 use promise::MinmaxAnswer;
@@ -17,6 +18,7 @@ ghost use Rattle.tables.specs.Refusals.{refused, answered, carriedBy};
 ghost use Rattle.planfile.specs.Reading.{«read-reply»};
 ghost use Rattle.promise.specs.Promise.{«plan-reply», «minmax-reply», «average-reply»};
 ghost use Rattle.room.specs.Room.{«room-reply»};
+ghost use Rattle.exports.specs.Export.{«export-reply»};
 ghost use Rattle.telling.specs.Told.{eights, Told, «word-of», lent as Lent};
 ghost use Rattle.telling.specs.Parts.{Tellable, «answer-reply»};
 
@@ -170,6 +172,19 @@ pub fn average_answer(told: AverageAnswer) -> Answer
             passed(values, 6)
         }
         AverageAnswer::Refused(r) => stopped(r),
+    }
+}
+
+// the length
+pub fn export_answer(told: ExportAnswer) -> Answer
+    ensures { λ r. ⌜ (answer-reply r ≡ export-reply told) × (r .count ≤ 11) ⌝ }
+{
+    match told {
+        ExportAnswer::Exported(n) => {
+            let values = [n, 0, 0, 0, 0, 0, 0, 0, 0, 0, 0];
+            passed(values, 1)
+        }
+        ExportAnswer::Refused(r) => stopped(r),
     }
 }
 

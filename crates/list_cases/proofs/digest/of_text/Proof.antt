@@ -1,0 +1,51 @@
+-- `list_cases::digest::of_text` is safe and ends: the digest keeps below its modulus. Assumes nothing.
+use Prim.Native.Nat.{_≤_, _<_, _-_}
+use lib.ListN.{length}
+use borrow.Author.Needs.{needs}
+use Rattle.list_cases.proofs.digest.of_text.Statement.{statement}
+use Rattle.list_cases.proofs.digest.of_text.Tie as tie
+
+abbrev Inv-loop : tie.InvT-loop
+Inv-loop text x₀ i₀ x i = (i ≤ length text) × (x < 4294967311)
+
+abbrev μ-loop : tie.MeasureT-loop
+μ-loop text x₀ i₀ x i = length text - i
+
+loop-holds : tie.Need-loop-holds Inv-loop μ-loop
+loop-holds c = search needs
+
+shared-slice-read-byte-to-number : tie.Need-shared-slice-read-byte-to-number Inv-loop μ-loop
+shared-slice-read-byte-to-number c = search needs
+
+byte-to-number-requires : tie.Need-byte-to-number-requires Inv-loop μ-loop
+byte-to-number-requires c κs = search needs
+
+step-requires : tie.Need-step-requires Inv-loop μ-loop
+step-requires c κs = search needs
+
+add-i : tie.Need-add-i Inv-loop μ-loop
+add-i c = search needs
+
+loop-less : tie.Need-loop-less Inv-loop μ-loop
+loop-less c = search needs
+
+loop-again : tie.Need-loop-again Inv-loop μ-loop
+loop-again c = search needs
+
+returns : tie.Need-returns Inv-loop μ-loop
+returns c = search needs
+
+pub of-text-spec : {M : Type 1} → statement M
+of-text-spec =
+    tie.close
+    (tie.spec
+    Inv-loop
+    μ-loop
+    loop-holds
+    shared-slice-read-byte-to-number
+    byte-to-number-requires
+    step-requires
+    add-i
+    loop-less
+    loop-again
+    returns)

@@ -1,0 +1,3 @@
+-- The laws of a plain line.
+pub mod DigitLaws
+pub mod PlainLaws
