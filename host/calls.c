@@ -48,6 +48,28 @@ static void show(lent *l) {
     give_back(l);
 }
 
+/* What a call only reads: the same bytes as before it, between the same guards. */
+typedef struct {
+    lent given;
+    uint8_t *before;
+} read_only;
+
+static read_only keep(lent l) {
+    read_only r;
+    r.given = l;
+    r.before = (uint8_t *)malloc(l.length + 1);
+    if (r.before == NULL) broken("no memory");
+    if (l.length > 0) memcpy(r.before, l.bytes, l.length);
+    return r;
+}
+
+static void kept(read_only *r) {
+    if (!lent_guarded(&r->given)) printf(" GUARD BYTES WRITTEN");
+    if (r->given.length > 0 && memcmp(r->before, r->given.bytes, r->given.length) != 0) printf(" WHAT IS READ WAS WRITTEN");
+    free(r->before);
+    give_back(&r->given);
+}
+
 static void show_table(lent_table *l) {
     size_t i;
     printf(l->length == 0 ? " -" : " ");
@@ -129,35 +151,39 @@ static void plan(const char *which) {
 
 static void read_file(void) {
     lent plan = lend(size(), PLAN_FROM), answer = lend(size(), ANSWER_FROM), file = bytes();
+    read_only content = keep(file);
     printf("%" PRIu64, qpl_read(file.bytes, file.length, plan.bytes, plan.length, answer.bytes, answer.length));
     show(&answer);
     show(&plan);
-    give_back(&file);
+    kept(&content);
 }
 
 static void write_file(void) {
     uint64_t f[11];
     lent file, settings;
+    read_only content;
     size_t k;
     for (k = 0; k < 11; k++) f[k] = number();
     file = lend(size(), PLAN_FROM);
     settings = bytes();
+    content = keep(settings);
     printf("%" PRIu64, qpl_write(f[0], f[1], f[2], f[3], f[4], f[5], f[6], f[7], f[8], f[9], f[10], settings.bytes, settings.length,
                                  file.bytes, file.length));
     show(&file);
-    give_back(&settings);
+    kept(&content);
 }
 
 static void import_list(void) {
     uint64_t scans = number(), settings = number();
     lent_table rates = lend_table(size(), RATES_FROM), distortions = lend_table(size(), DISTORTIONS_FROM);
     lent scratch = bytes(), text = bytes();
+    read_only content = keep(text);
     printf("%" PRIu64, qpl_import(scans, settings, text.bytes, text.length, rates.cells, rates.length, distortions.cells,
                                   distortions.length, scratch.bytes, scratch.length));
     show(&scratch);
     show_table(&rates);
     show_table(&distortions);
-    give_back(&text);
+    kept(&content);
 }
 
 static void export_list(void) {

@@ -7,8 +7,8 @@
  * short ones, and on refusals.
  *
  * So that the measurement is not fooled: a byte that is written with the paint's own value shows under a second paint; a function that takes
- * no stack, and one that fills a known room of it, must come out so; and each call must give back what it should, so that it did its work.
- * What a frame reserves and does not touch is not seen here. */
+ * no stack, and one that fills a known room of it, must come out so; and each call must give back what it should, and an import must leave
+ * the tables that were exported, so that it did its work. What a frame reserves and does not touch is not seen here. */
 #include "qpl.h"
 
 #include <stdio.h>
@@ -63,10 +63,11 @@ static const uint8_t paints[] = {0xa5, 0x3c};
 static uint8_t stack[STACK + 16];
 static uint32_t rates[CELLS], distortions[CELLS];
 static uint8_t plan[SCANS], scratch[16 * SCANS], answer[QPL_READ_ANSWER], file[1536];
-/* Of a list: the longest that there is, with room for one line more; and scratch, a byte for each cell. */
+/* Of a list: the longest that there is, with room for one line more; scratch, a byte for each cell; and the tables that an import fills. */
 #define LONGEST 6722470
 #define LINE 32
 static uint8_t text[LONGEST + LINE], marks[CELLS];
+static uint32_t taken_rates[CELLS], taken_distortions[CELLS];
 
 static int passed, failed;
 
@@ -218,20 +219,28 @@ static void run_files(uint64_t scans, uint64_t kind, uint64_t n, uint64_t d) {
     run(CALL_WRITE, writing, 14);
 }
 
-/* An export of the tables as they are, which have no forbidden cell, and an import of the list: into the tables that it came from, which
- * must not move a cell. Then both refused. */
+#define QUOTED "\"0\",\"\",\"0\",\"1\",\"2\""
+#define QUOTED_FAULT "\"0\",\"\",\"0\",\"1\",\"x\""
+
+/* An export of the tables as they are, which have no forbidden cell, and an import of the list into other tables, which must then hold the
+ * same cells and are exported again. Then both refused, and an import of lines in quotes. */
 static void run_lists(uint64_t scans, uint64_t settings) {
     uint64_t cells = settings + (scans - 1) * settings * settings, length, first = 1, line = cells + 1, k;
     uint64_t writing[ARGUMENTS] = {scans, settings}, reading[ARGUMENTS] = {scans, settings};
-    uint32_t last = rates[cells - 1];
+    /* bytes and cells that no list has, so that a call that does nothing shows */
+    memset(text, 0, sizeof text), memset(answer, 0, sizeof answer);
+    memset(taken_rates, 0xa5, sizeof taken_rates), memset(taken_distortions, 0xa5, sizeof taken_distortions);
     writing[2] = AT(rates), writing[3] = cells, writing[4] = AT(distortions), writing[5] = cells;
     writing[6] = AT(text), writing[7] = sizeof text, writing[8] = AT(answer), writing[9] = sizeof answer;
     run(CALL_EXPORT, writing, 0);
     length = qpl_value(answer, QPL_EXPORT_LENGTH);
-    reading[2] = AT(text), reading[3] = length, reading[4] = AT(rates), reading[5] = cells, reading[6] = AT(distortions), reading[7] = cells;
-    reading[8] = AT(marks), reading[9] = sizeof marks;
+    reading[2] = AT(text), reading[3] = length, reading[4] = AT(taken_rates), reading[5] = cells;
+    reading[6] = AT(taken_distortions), reading[7] = cells, reading[8] = AT(marks), reading[9] = sizeof marks;
     run(CALL_IMPORT, reading, 0);
-    writing[7] = length;
+    expect("an import fills the tables that were exported", memcmp(taken_rates, rates, cells * sizeof *rates) == 0 &&
+                                                                memcmp(taken_distortions, distortions, cells * sizeof *distortions) == 0);
+    memset(text, 0, sizeof text), memset(answer, 0, sizeof answer);
+    writing[2] = AT(taken_rates), writing[4] = AT(taken_distortions), writing[7] = length;
     run(CALL_EXPORT, writing, 0);
     expect("a list that is imported is exported again", qpl_value(answer, QPL_EXPORT_LENGTH) == length);
     /* one line more: malformed, out of range, and the first line once again */
@@ -239,7 +248,7 @@ static void run_lists(uint64_t scans, uint64_t settings) {
     run(CALL_IMPORT, reading, 16 | line << 32);
     memcpy(text + length, "0,,16,0,0", 9), reading[3] = length + 9;
     run(CALL_IMPORT, reading, 17 | line << 32);
-    while (text[first - 1] != '\n') first++;
+    while (first < LINE && text[first - 1] != '\n') first++;
     for (k = 0; k < first; k++) text[length + k] = text[k];
     reading[3] = length + first;
     run(CALL_IMPORT, reading, 18 | line << 32);
@@ -248,11 +257,17 @@ static void run_lists(uint64_t scans, uint64_t settings) {
     run(CALL_IMPORT, reading, 6);
     writing[7] = length - 1;
     run(CALL_EXPORT, writing, 6);
-    rates[cells - 1] = 1048576;
+    taken_rates[cells - 1] = 1048576;
     run(CALL_EXPORT, writing, 7 | (cells - 1) << 32);
-    rates[cells - 1] = last;
     writing[3] = cells - 1;
     run(CALL_EXPORT, writing, 5);
+    /* a line in quotes, which is read in another way than a plain one, and behind it such a line with a fault */
+    memcpy(text, QUOTED "\r\n" QUOTED_FAULT, sizeof QUOTED - 1 + 2 + sizeof QUOTED_FAULT - 1);
+    reading[3] = sizeof QUOTED - 1, reading[9] = sizeof marks;
+    run(CALL_IMPORT, reading, 0);
+    expect("an import takes a line in quotes", taken_rates[0] == 1 && taken_distortions[0] == 2);
+    reading[3] = sizeof QUOTED - 1 + 2 + sizeof QUOTED_FAULT - 1;
+    run(CALL_IMPORT, reading, 16 | UINT64_C(2) << 32);
 }
 
 /* A function that takes no stack but its return address, and one that fills a room with a value. */

@@ -1,7 +1,7 @@
-/* The worked tables of document 01 ("Bench tables", the "Others" too) and its room figures, and lists of table T as document 02, [1], has
- * them, through the archive: of planning calls every value, every byte of every buffer, and guard bytes on both sides of each; of files the
+/* The worked tables of document 01 ("Bench tables", the "Others" too) and its room figures, and lists of table T by the rules of document
+ * 02, [1], through the archive: of planning calls every value, every byte of every buffer, and guard bytes on both sides of each; of files the
  * fields, the settings, the letters, the first packed byte, and guard bytes; of lists every cell and byte, and guards. What is expected is
- * written out by hand from the documents. */
+ * written out by hand: of document 01 its own figures, of lists what the rules give. */
 #include "lent.h"
 #include "qpl.h"
 
@@ -215,7 +215,8 @@ static void files(void) {
     give_back(&answer);
 }
 
-/* A list for 2 scans and 2 settings, what its import must give back, and on 0 the six cells of each table. */
+/* A list for 2 scans and 2 settings (NULL: no bytes, lent as a null pointer), what its import must give back, and on 0 the six cells of each
+ * table. */
 typedef struct {
     const char *what, *text;
     uint32_t refusal, line;
@@ -231,6 +232,7 @@ static const expected_list lists[] = {
     {"one line without its end", "0,,0,10,2", 0, 0, {10, F, F, F, F, F}, {2}},
     {"every field in quotes, and leading zeros", "\"0\",\"\",\"1\",\"0000004\",\"7\"\r\n", 0, 0, {F, 4, F, F, F, F}, {0, 7}},
     {"no lines", "", 0, 0, {F, F, F, F, F, F}, {0}},
+    {"no lines, at a null pointer", NULL, 0, 0, {F, F, F, F, F, F}, {0}},
     {"an LF by itself", "0,,0,10,2\n", 16, 1, {0}, {0}},
     {"scan 0 with a previous setting", "0,0,0,10,2\r\n", 16, 1, {0}, {0}},
     {"scan 1 without one", "1,,0,8,3\r\n", 16, 1, {0}, {0}},
@@ -257,8 +259,8 @@ static int holds_cells(const lent_table *l, size_t kept, const uint32_t *given, 
 static int imports(const expected_list *e, uint64_t scans, uint64_t settings, size_t r, size_t d, size_t s) {
     lent_table rates = lend_table(r, RATES_FROM), distortions = lend_table(d, DISTORTIONS_FROM);
     lent scratch = lend(s, 100);
-    uint64_t given = qpl_import(scans, settings, (const uint8_t *)e->text, strlen(e->text), rates.cells, rates.length, distortions.cells,
-                                distortions.length, scratch.bytes, scratch.length);
+    uint64_t given = qpl_import(scans, settings, (const uint8_t *)e->text, e->text == NULL ? 0 : strlen(e->text), rates.cells, rates.length,
+                                distortions.cells, distortions.length, scratch.bytes, scratch.length);
     int good = qpl_refusal(given) == e->refusal && qpl_carried(given) == e->line;
     good = good && holds_cells(&rates, e->refusal == 0 ? 6 : 0, e->rates, RATES_FROM);
     good = good && holds_cells(&distortions, e->refusal == 0 ? 6 : 0, e->distortions, DISTORTIONS_FROM);
@@ -325,7 +327,10 @@ static void import_export(void) {
     expect("export: nothing was answered", answer[0] == 0 && text[0] == 0);
     qpl_export(2, 2, t_rates, 6, t_distortions, 6, text, sizeof text, answer, sizeof answer);
     expect("T's list, its length by name", qpl_value(answer, QPL_EXPORT_LENGTH) == sizeof text && memcmp(text, T_LIST, sizeof text) == 0);
-    expect("import: no text", qpl_import(2, 2, NULL, 0, NULL, 0, NULL, 0, NULL, 0) == 6);
+    /* the answer holds T's length before it, so that a 0 was written */
+    expect("export: all forbidden, into no bytes at a null pointer",
+           qpl_export(2, 2, none, 6, beside, 6, NULL, 0, answer, sizeof answer) == 0 && qpl_value(answer, QPL_EXPORT_LENGTH) == 0);
+    expect("import: text, tables and scratch at null pointers: refused 6", qpl_import(2, 2, NULL, 0, NULL, 0, NULL, 0, NULL, 0) == 6);
 }
 
 int main(void) {

@@ -18,7 +18,7 @@
  *    3  law is not 0 or 1
  *    4  n or d outside its range (n at most, d from 1 to 1,073,741,823)
  *    5  rate or distortion table not of the exact length
- *    6  a lent buffer shorter than needed
+ *    6  a lent buffer shorter than needed; in qpl_import a table too
  *    7  illegal cell; carries the lowest illegal cell's number
  *    8  no allowed sequence, whatever the limit
  *    9  allowed sequences exist, none within ceiling or budget
@@ -70,11 +70,11 @@ extern "C" {
 /* A call takes at most this much stack, in bytes from the caller's stack pointer at the call. That is measured, and not proved.
  *
  * host/stack.c runs the calls of the x86-64 archive on a painted stack and finds the deepest byte that changed, the return address counted:
- * room 96, read 688, write 624, ceiling 5,520, multiplier 5,536, minmax 5,568, average 5,680, import 376, export 528. It runs the largest
+ * room 96, read 688, write 624, ceiling 5,520, multiplier 5,536, minmax 5,568, average 5,680, import 328, export 528. It runs the largest
  * tables, small ones, refusals, and n and d that are consecutive Fibonacci numbers. The frames in the disassembly, read by hand, all have
  * fixed sizes and agree to 16 bytes: the deepest chain of calls, from qpl_average through the pass to the choice of a row, takes 5,683. Two
  * functions call themselves: the lowest terms of n/d, 64 bytes each time, at most 44 times, and never while a pass is on the stack; and the
- * digits of a number in qpl_export, 48 bytes each time, at most 7 times. The common divisor has become a loop.
+ * digits of a number in qpl_export, 48 bytes each time, at most 7 times. The common divisor and the width of a number have become loops.
  *
  * The figures are of the archive as rattle-kit-5b compiles it, seen under the kit's emulator with its C library, whose memcpy and memset are
  * counted as they ran; host/run measures the archive at hand. The stack of a loader that binds the two at their first call comes on top. */
@@ -120,7 +120,8 @@ static inline uint64_t qpl_value(const uint8_t *answer, size_t k) {
 }
 
 /* The room question: what a host lends for its channels, as true products.
- * Answer (24 bytes): the cells of one table; the bytes of one table for all channels; the scratch bytes of one call.
+ * Answer (24 bytes): the cells of one table; the bytes of one table for all channels; the scratch bytes of one planning call (an import
+ * takes a byte for each cell instead).
  * Refusals, the first that applies: 10, 1, 2, 6 (answer under 24 bytes). Only the first 24 bytes of answer may change, and on 0 alone. */
 uint64_t qpl_room(uint64_t channels, uint64_t scans, uint64_t settings, uint8_t *answer, size_t answer_length);
 
@@ -199,10 +200,11 @@ uint64_t qpl_average(uint64_t scans, uint64_t settings, uint64_t law, uint64_t b
  * line ends and quotes as in RFC 4180 and no heading line. The cells are those of the planning calls.
  *
  * A line ends in CR LF, which the last line may lack; a text of no bytes has no lines. A field is one to seven decimal digits, leading zeros
- * among them. The previous setting is an empty field where the scan is 0, and only there. Any field may stand in double quotes, an empty one
- * too. All else is malformed (16): an empty line, fewer or more than five fields, a CR or an LF by itself, blanks, signs, any other byte. Out
- * of range (17) are a scan from `scans` on, a setting or previous setting from `settings` on, and a rate or distortion over 1,048,575, so that
- * no list names a forbidden cell. A second line for a cell is 18, with the same numbers too. */
+ * among them. The previous setting is an empty field where the scan is 0, and only there. Any field may stand in double quotes, the empty one
+ * too, with nothing between them but what would stand there without them. All else is malformed (16): an empty line, fewer or more than five
+ * fields, a CR or an LF by itself, blanks, signs, any other byte. Out of range (17) are a scan from `scans` on, a setting or previous setting
+ * from `settings` on, and a rate or distortion over 1,048,575, so that no line can make a cell forbidden. A second line for a cell is 18,
+ * with the same numbers too. The number of a line is how many CR LF stand before it, and 1. */
 
 /* Reads a list of any bytes and any length into both tables. There is no answer beside them.
  * rates and distortions need the cells of one table, scratch as many bytes: what qpl_room answers first, and not what it says of scratch.
@@ -215,7 +217,8 @@ uint64_t qpl_import(uint64_t scans, uint64_t settings, const uint8_t *text, size
                     uint32_t *distortions, size_t distortions_length, uint8_t *scratch, size_t scratch_length);
 
 /* Writes the list of both tables: a line for each cell that is not forbidden, in the order of cells, with no quotes and no leading zeros,
- * and CR LF after each. No list takes more than 28 bytes for each cell of a table, and none more than 6,722,470 in all.
+ * and CR LF after each. No list takes more than 28 bytes for each cell of a table (proved), and none more than 6,722,470 in all (counted: the
+ * list of the largest tables with every number at its longest).
  * Answer (8 bytes): the length of the list in bytes.
  * Refusals, the first that applies: 1, 2, 5, 7, 6 (text shorter than the list, or answer under 8 bytes, also where the list has no bytes).
  * On 0 the first bytes of text are the list and the rest is as it was; on a refusal all of text is as it was. What is written is imported as

@@ -128,6 +128,22 @@ def ranges(out):
         out.take(scans, settings, b"%d,%d,0,0,1048576\r\n" % (scans, settings))
 
 
+def quoted_ranges(out):
+    """Each field in quotes, at its limit and one over, beside plain fields, and all in quotes with their zeros; at scan 0 too; and 16 before
+    17 before 18 in a quoted line."""
+    for scans, settings in ((3, 16), (1024, 1)):
+        top = [scans - 1, settings - 1, settings - 1, MOST_CELL, MOST_CELL]
+        for k in range(5):
+            for value in (top[k], top[k] + 1):
+                fields = [b"%d" % number for number in top[:k] + [value] + top[k + 1 :]]
+                out.take(scans, settings, with_field(b",".join(fields), k, b'"%d"' % value) + LINE_END)
+                out.take(scans, settings, b",".join(b'"%s"' % field.zfill(7) for field in fields))
+    for line in (b'0,,"1",4,7', b'0,,"2",4,7', b'0,"",1,"1048575",7', b'0,"",1,"1048576",7', b'"0",,1,4,"1048575"', b'"0",,1,4,"1048576"'):
+        out.take(2, 2, line)
+    for line in (b'"0","","0","1048575","2"', b'"0","","0","1048576","2"', b'"0","","0","01048576","2"', b'"0","","2","1048576","2'):
+        out.take(2, 2, b"0,,0,10,2\r\n" + line + LINE_END)
+
+
 def twice(out):
     """A second line for a cell: with the same values or others, written otherwise, next to the first or far behind, in the last line; and
     lines that differ in one field alone, which is no second one."""
@@ -192,6 +208,7 @@ def faults(out):
     digits(out)
     previous_fields(out)
     ranges(out)
+    quoted_ranges(out)
     twice(out)
     in_one_line(out)
     in_several_lines(out)

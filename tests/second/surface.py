@@ -1,5 +1,5 @@
 #!/usr/bin/env python3
-"""What the calls of the C surface must give back and leave, from include/qpl.h and document 01, sharing nothing with the library."""
+"""What the calls of the C surface must give back and leave, from include/qpl.h and documents 01 and 02, sharing nothing with the library."""
 
 import lists
 import planfile

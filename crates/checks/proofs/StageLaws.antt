@@ -1,7 +1,8 @@
 -- A stage at its place among the checks: where it stopped, and where it passed. Assumes nothing.
-use mathlib.Core.Path.{_≡_, sym, ap, _∙_}
+use mathlib.Core.Path.{_≡_, refl, sym, ap, _∙_}
 use mathlib.Core.Option.{Option, none, some}
 use mathlib.Core.List.{List, _∷_}
+use Rattle.laws.proofs.Tests.{never}
 use Rattle.tables.specs.declared.refusal.Refusal.{Refusal}
 use Rattle.checks.specs.declared.stage.Stage.{Stage}
 use Rattle.checks.specs.declared.stage.Stage.the-variants.{Passed, Stopped}
@@ -24,3 +25,10 @@ passed-none {z} {o} e q = sym e ∙ ap ended q
 -- .. and one that stopped
 pub stage-stops : {z : Stage} {w : Refusal} {o : Option Refusal} → ended z ≡ o → z ≡ Stopped w → o ≡ some w
 stage-stops {z} {w} {o} e q = sym e ∙ ap ended q
+
+-- two stages that end alike are the same
+pub ended-unique : (a b : Stage) → ended a ≡ ended b → a ≡ b
+ended-unique Passed Passed e = refl
+ended-unique Passed (Stopped r) e = never cc
+ended-unique (Stopped r) Passed e = never cc
+ended-unique (Stopped r) (Stopped r′) e = ap Stopped cc

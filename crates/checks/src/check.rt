@@ -1,4 +1,4 @@
-// The checks 1 to 7 of a planning call, in document 01's order.
+// The checks 1 to 7 of a planning call, in document 01's order; 5 and 7 by themselves, for an export too.
 use crate::range::ranges;
 use crate::stage::Stage;
 use crate::stage::then;
@@ -19,7 +19,7 @@ ghost use Rattle.legal.specs.Judged.{Judged};
 ghost use Rattle.checks.specs.Stages.{ended, CheckedAs};
 
 // 5: not both of this length.
-fn wrong_lengths(cells: usize, rates: usize, distortions: usize) -> bool
+pub fn wrong_lengths(cells: usize, rates: usize, distortions: usize) -> bool
     ensures { λ r. ⌜ r ≡ (not (eqb rates cells) || not (eqb distortions cells)) ⌝ }
 {
     if rates != cells {
@@ -39,7 +39,7 @@ fn too_short(scans: usize, need: usize, plan: usize, scratch: usize) -> bool
 }
 
 // 7: the legality of every cell.
-fn check_cells(rates: &[u32], distortions: &[u32]) -> Stage
+pub fn check_cells(rates: &[u32], distortions: &[u32]) -> Stage
     requires { ⌜ length (now distortions) ≡ length (now rates) ⌝ }
     ensures { λ r. ⌜ Judged (now (rates .entry)) (now (distortions .entry)) (ended r) ⌝ }
 {

@@ -16,16 +16,16 @@ unfolding previous-field
 previous-none p e = rw (eq-eqb (p .scan) 0 e) refl
 
 -- .. and only there
-pub previous-some : (p : Place) → (p .scan ≡ 0 → ⊥) → previous-field p ≡ decimal (p .before)
+pub previous-some : (p : Place) → (p .scan ≡ 0 → ⊥) → previous-field p ≡ decimal (p .previous)
 unfolding previous-field
 previous-some p n = rw (ne-eqb (p .scan) 0 n) refl
 
-pub previous-short : (p : Place) → p .before < 100 → length (previous-field p) ≤ 2
+pub previous-short : (p : Place) → p .previous < 100 → length (previous-field p) ≤ 2
 previous-short p h = of (ℕ-discrete (p .scan) 0)
   where
     of : Dec (p .scan ≡ 0) → length (previous-field p) ≤ 2
     of (yes e) = rw (previous-none p e) (omega arith)
-    of (no n) = rw (previous-some p n) (width-most 1 (p .before) h)
+    of (no n) = rw (previous-some p n) (width-most 1 (p .previous) h)
 
 -- a field with the comma behind it
 abbrev pub field : List ℕ → List ℕ
@@ -46,7 +46,7 @@ line-long p rate distortion = simp length-append (omega arith)
 
 -- at most 4, 2, 2, 7 and 7 digits
 pub line-short : (p : Place) (rate distortion : ℕ) →
-    (p .scan < 10000) × ((p .before < 100) × ((p .setting < 100) × ((rate < 10000000) × (distortion < 10000000)))) → length (export-line p rate distortion) ≤ 28
+    (p .scan < 10000) × ((p .previous < 100) × ((p .setting < 100) × ((rate < 10000000) × (distortion < 10000000)))) → length (export-line p rate distortion) ≤ 28
 line-short p rate distortion h = omega (
   arith,
   line-long p rate distortion,

@@ -9,45 +9,39 @@ use native.Mathlib.Omega.{arith}
 use borrow.Author.Tests.{lt-ltb, le-ltb, eq-eqb, ne-eqb}
 use Rattle.tables.specs.Tables.{cells, cell}
 use Rattle.exports.specs.declared.place.Place.{Place}
-use Rattle.exports.specs.Export.{next-place, first-place}
-use Rattle.exports.specs.Parts.{Placed, Exportable}
+use Rattle.exports.specs.Export.{next-place, first-place, place-at, PlaceOf, Exportable}
+use Rattle.exports.specs.Parts.{Placed}
 
 -- ---- the four ways on
 
 module _ (Q : ℕ) (p : Place) where
   -- the next setting
-  pub to-setting : p .setting + 1 < Q → record { scan = p .scan; before = p .before; setting = p .setting + 1 } ≡ next-place Q p
+  pub to-setting : p .setting + 1 < Q → record { scan = p .scan; previous = p .previous; setting = p .setting + 1 } ≡ next-place Q p
   unfolding next-place
   to-setting h = rw (lt-ltb (suc (p .setting)) Q (omega arith), add-one) refl
 
   -- scan 1, after the one row of scan 0
-  pub to-scan-one : Q ≤ p .setting + 1 → p .scan ≡ 0 → record { scan = 1; before = 0; setting = 0 } ≡ next-place Q p
+  pub to-scan-one : Q ≤ p .setting + 1 → p .scan ≡ 0 → record { scan = 1; previous = 0; setting = 0 } ≡ next-place Q p
   unfolding next-place
   to-scan-one h e = rw (le-ltb (suc (p .setting)) Q (omega arith), eq-eqb (p .scan) 0 e) refl
 
   -- the next row of a later scan
-  pub to-row : Q ≤ p .setting + 1 → (p .scan ≡ 0 → ⊥) → p .before + 1 < Q →
-      record { scan = p .scan; before = p .before + 1; setting = 0 } ≡ next-place Q p
+  pub to-row : Q ≤ p .setting + 1 → (p .scan ≡ 0 → ⊥) → p .previous + 1 < Q →
+      record { scan = p .scan; previous = p .previous + 1; setting = 0 } ≡ next-place Q p
   unfolding next-place
   to-row h n g =
-      rw (le-ltb (suc (p .setting)) Q (omega arith), ne-eqb (p .scan) 0 n, lt-ltb (suc (p .before)) Q (omega arith), add-one) refl
+      rw (le-ltb (suc (p .setting)) Q (omega arith), ne-eqb (p .scan) 0 n, lt-ltb (suc (p .previous)) Q (omega arith), add-one) refl
 
   -- the next scan
-  pub to-scan : Q ≤ p .setting + 1 → (p .scan ≡ 0 → ⊥) → Q ≤ p .before + 1 → record { scan = p .scan + 1; before = 0; setting = 0 } ≡ next-place Q p
+  pub to-scan : Q ≤ p .setting + 1 → (p .scan ≡ 0 → ⊥) → Q ≤ p .previous + 1 → record { scan = p .scan + 1; previous = 0; setting = 0 } ≡ next-place Q p
   unfolding next-place
   to-scan h n g =
-      rw (le-ltb (suc (p .setting)) Q (omega arith), ne-eqb (p .scan) 0 n, le-ltb (suc (p .before)) Q (omega arith), add-one) refl
+      rw (le-ltb (suc (p .setting)) Q (omega arith), ne-eqb (p .scan) 0 n, le-ltb (suc (p .previous)) Q (omega arith), add-one) refl
 
 -- ---- which cell it is
 
--- p is the place of cell c
-pub record PlaceOf (Q c : ℕ) (p : Place) : Type 0 where
-  pub before : p .before < Q
-  pub setting : p .setting < Q
-  pub is : cell Q (p .scan) (p .before) (p .setting) ≡ c
-
 pub first-is : (Q : ℕ) → 1 ≤ Q → PlaceOf Q 0 first-place
-first-is Q h = record { before = h; setting = h; is = refl }
+first-is Q h = record { previous = h; setting = h; is = refl; none-before = λ e. refl }
 
 -- one setting on is one cell on
 setting-on : (Q i p q : ℕ) → cell Q i p (q + 1) ≡ cell Q i p q + 1
@@ -67,29 +61,38 @@ scan-on Q (suc i) p q n e f =
     rw s (omega (arith, ap (λ (x : ℕ). x * Q) e))
 
 pub next-is : {Q c : ℕ} {p : Place} → PlaceOf Q c p → PlaceOf Q (c + 1) (next-place Q p)
-next-is {Q} {c} {p} a = of (decLt (p .setting + 1) Q) (ℕ-discrete (p .scan) 0) (decLt (p .before + 1) Q)
+next-is {Q} {c} {p} a = of (decLt (p .setting + 1) Q) (ℕ-discrete (p .scan) 0) (decLt (p .previous + 1) Q)
   where
-    of : Dec (p .setting + 1 < Q) → Dec (p .scan ≡ 0) → Dec (p .before + 1 < Q) → PlaceOf Q (c + 1) (next-place Q p)
+    of : Dec (p .setting + 1 < Q) → Dec (p .scan ≡ 0) → Dec (p .previous + 1 < Q) → PlaceOf Q (c + 1) (next-place Q p)
     of (yes h) e g = subst (PlaceOf Q (c + 1)) (to-setting Q p h) (record {
-      before = a .before;
+      previous = a .previous;
       setting = h;
-      is = setting-on Q (p .scan) (p .before) (p .setting) ∙ ap (λ (k : ℕ). k + 1) (a .is);
+      is = setting-on Q (p .scan) (p .previous) (p .setting) ∙ ap (λ (k : ℕ). k + 1) (a .is);
+      none-before = a .none-before;
     })
     of (no h) (yes e) g = subst (PlaceOf Q (c + 1)) (to-scan-one Q p (omega arith) e) (record {
-      before = omega (arith, a .before);
-      setting = omega (arith, a .before);
-      is = let i : cell Q 0 (p .before) (p .setting) ≡ c = (rw e at (a .is)) in omega (arith, a .setting, i);
+      previous = omega (arith, a .previous);
+      setting = omega (arith, a .previous);
+      is = let i : cell Q 0 (p .previous) (p .setting) ≡ c = (rw e at (a .is)) in omega (arith, a .setting, i);
+      none-before = λ z. refl;
     })
     of (no h) (no e) (yes g) = subst (PlaceOf Q (c + 1)) (to-row Q p (omega arith) e g) (record {
-      before = g;
-      setting = omega (arith, a .before);
-      is = row-on Q (p .scan) (p .before) (p .setting) e (omega (arith, a .setting)) ∙ ap (λ (k : ℕ). k + 1) (a .is);
+      previous = g;
+      setting = omega (arith, a .previous);
+      is = row-on Q (p .scan) (p .previous) (p .setting) e (omega (arith, a .setting)) ∙ ap (λ (k : ℕ). k + 1) (a .is);
+      none-before = λ z. absurd (e z);
     })
     of (no h) (no e) (no g) = subst (PlaceOf Q (c + 1)) (to-scan Q p (omega arith) e (omega arith)) (record {
-      before = omega (arith, a .before);
-      setting = omega (arith, a .before);
-      is = scan-on Q (p .scan) (p .before) (p .setting) e (omega (arith, a .before)) (omega (arith, a .setting)) ∙ ap (λ (k : ℕ). k + 1) (a .is);
+      previous = omega (arith, a .previous);
+      setting = omega (arith, a .previous);
+      is = scan-on Q (p .scan) (p .previous) (p .setting) e (omega (arith, a .previous)) (omega (arith, a .setting)) ∙ ap (λ (k : ℕ). k + 1) (a .is);
+      none-before = λ z. refl;
     })
+
+-- "in cell order": going on from place to place, cell after cell comes by
+pub in-cell-order : (Q : ℕ) → 1 ≤ Q → (c : ℕ) → PlaceOf Q c (place-at Q c)
+in-cell-order Q h zero = first-is Q h
+in-cell-order Q h (suc c) = rw add-one at (next-is (in-cell-order Q h c))
 
 -- the scan of a cell of the tables
 scan-inside : (N Q i p q : ℕ) → 1 ≤ N → cell Q i p q < cells N Q → i < N
@@ -100,8 +103,11 @@ scan-inside N Q (suc i) p q h l = of (decLt (suc i) N)
     of (yes g) = g
     of (no g) = absurd (omega (arith, mul-le-mul-right {m = N - 1} {n = i} (Q * Q) (omega arith)))
 
+pub scan-of : {N Q c : ℕ} {p : Place} → 1 ≤ N → PlaceOf Q c p → c < cells N Q → p .scan < N
+scan-of {N} {Q} {c} {p} n a h = scan-inside N Q (p .scan) (p .previous) (p .setting) n (rw (a .is) h)
+
 -- its place is within the limits
 pub placed : {N Q c : ℕ} {rates distortions : List ℕ} {p : Place} → Exportable N Q rates distortions → PlaceOf Q c p → c < cells N Q → Placed p
-placed {N} {Q} {c} {p = p} x a h =
-    let i = scan-inside N Q (p .scan) (p .before) (p .setting) (x .some-scans) (rw (a .is) h) in
-    (omega (arith, x .scans), (omega (arith, x .settings, a .before), omega (arith, x .settings, a .setting)))
+placed {p = p} x a h =
+    let i = scan-of (x .some-scans) a h in
+    (omega (arith, x .scans), (omega (arith, x .settings, a .previous), omega (arith, x .settings, a .setting)))

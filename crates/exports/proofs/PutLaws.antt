@@ -6,16 +6,13 @@ use native.Mathlib.Numerals.{add-one}
 use native.Mathlib.Omega.{arith}
 use lib.ListN.{length, set, length-append}
 use lib.Seq.{sets}
+use Rattle.laws.specs.Put.{Put}
 use Rattle.laws.proofs.Stores.{sets-append}
+use Rattle.laws.proofs.PutLaws.{next}
 use Rattle.exports.specs.declared.place.Place.{Place}
 use Rattle.exports.specs.Export.{decimal, previous-field, export-line}
 use Rattle.exports.proofs.DecimalLaws.{decimal-one, decimal-more}
 use Rattle.exports.proofs.LineLaws.{field, line-is}
-
--- the text l was put at `at` into d, which became e, and `to` is the place after it
-pub record Put (d : List ℕ) (at : ℕ) (l e : List ℕ) (to : ℕ) : Type 0 where
-  pub so : e ≡ sets d at l
-  pub end : to ≡ at + length l
 
 -- what is put right behind a text
 pub put-more : (d : List ℕ) {e : List ℕ} (l m : List ℕ) (at to : ℕ) → to ≡ at + length l → e ≡ sets d at l → sets e to m ≡ sets d at (l ++ m)
@@ -34,13 +31,6 @@ put-last d at to x h p e =
 -- what `put_field` and `put_previous` ensure
 pub field-put : {d e : List ℕ} {at to : ℕ} (l : List ℕ) → (to ≡ at + length l + 1) × (e ≡ sets d at (field l)) → Put d at (field l) e to
 field-put l p = record { so = p .1; end = omega (arith, p .0, length-append l (44 ∷ [])) }
-
--- a text, and another right behind it
-pub next : {d e f l m : List ℕ} {at to on : ℕ} → Put d at l e to → Put e to m f on → Put d at (l ++ m) f on
-next {d} {e} {f} {l} {m} {at} {to} {on} p q = record {
-  so = q .so ∙ put-more d l m at to (p .end) (p .so);
-  end = omega (arith, length-append l m, p .end, q .end);
-}
 
 -- CR and LF behind the fields make the line
 pub line-put : {d e : List ℕ} {at to : ℕ} (p : Place) (rate distortion : ℕ) →

@@ -1,15 +1,17 @@
 -- Document 02, [1]: "export it in cell order". Assumes nothing.
-use mathlib.Core.Bool.{Bool, not, cond, _||_}
+use mathlib.Core.Path.{_≡_}
+use mathlib.Core.Bool.{cond}
 use mathlib.Core.Option.{Option, none, some}
 use mathlib.Core.List.{List, [], _∷_, _++_}
-use Prim.Native.Nat.{ℕ, zero, suc, _+_, _/_, _%_}
-use lib.Dec.{eqb, ltb, leb}
+use Prim.Native.Nat.{ℕ, zero, suc, _+_, _/_, _%_, _≤_, _<_}
+use lib.Dec.{eqb, ltb}
 use lib.ListN.{length, getD, drop}
 use Rattle.tables.specs.declared.refusal.Refusal.{Refusal}
 use Rattle.tables.specs.declared.refusal.Refusal.the-variants as refusal
 use Rattle.tables.specs.Refusals.{Reply, refused, answered}
-use Rattle.tables.specs.Limits.{most-cell, forbidden}
-use Rattle.tables.specs.Tables.{cells}
+use Rattle.tables.specs.Limits.{most-scans, most-settings, forbidden}
+use Rattle.tables.specs.Tables.{cells, cell}
+use Rattle.tables.specs.Legal.{AllLegal, cell-illegal}
 use Rattle.checks.specs.Checks.{when, found, first-from, first-refusal, or-answer}
 use Rattle.checks.specs.Planning.{scans-out, settings-out, lengths-out}
 use Rattle.exports.specs.declared.place.Place.{Place}
@@ -26,12 +28,16 @@ decimal x = decimal-of (suc x) x
 
 -- "The previous field is empty for scan 0 and only there."
 unfoldable pub previous-field : Place → List ℕ
-previous-field p = cond (eqb (p .scan) 0) [] (decimal (p .before))
+previous-field p = cond (eqb (p .scan) 0) [] (decimal (p .previous))
 
--- "scan, previous setting, setting, rate, distortion", and "CRLF after each line"
+-- "scan, previous setting, setting, rate, distortion"
+abbrev pub line-text : Place → (rate distortion : ℕ) → List ℕ
+line-text p rate distortion =
+    decimal (p .scan) ++ (44 ∷ previous-field p ++ (44 ∷ decimal (p .setting) ++ (44 ∷ decimal rate ++ (44 ∷ decimal distortion))))
+
+-- "CRLF after each line"
 unfoldable pub export-line : Place → (rate distortion : ℕ) → List ℕ
-export-line p rate distortion =
-    decimal (p .scan) ++ (44 ∷ previous-field p ++ (44 ∷ decimal (p .setting) ++ (44 ∷ decimal rate ++ (44 ∷ decimal distortion ++ (13 ∷ 10 ∷ [])))))
+export-line p rate distortion = line-text p rate distortion ++ (13 ∷ 10 ∷ [])
 
 -- "forbidden cells are not exported"
 abbrev pub cell-line : Place → (rate distortion : ℕ) → List ℕ
@@ -40,34 +46,55 @@ cell-line p rate distortion = cond (eqb rate forbidden) [] (export-line p rate d
 -- "in cell order": the place of the next cell. Scan 0 has one row, every later scan one for each setting before it.
 unfoldable pub next-place : ℕ → Place → Place
 next-place Q p =
-    cond (ltb (suc (p .setting)) Q) (record { scan = p .scan; before = p .before; setting = suc (p .setting) })
-    (cond (eqb (p .scan) 0) (record { scan = 1; before = 0; setting = 0 })
-    (cond (ltb (suc (p .before)) Q) (record { scan = p .scan; before = suc (p .before); setting = 0 })
-    (record { scan = suc (p .scan); before = 0; setting = 0 })))
+    cond (ltb (suc (p .setting)) Q) (record { scan = p .scan; previous = p .previous; setting = suc (p .setting) })
+    (cond (eqb (p .scan) 0) (record { scan = 1; previous = 0; setting = 0 })
+    (cond (ltb (suc (p .previous)) Q) (record { scan = p .scan; previous = suc (p .previous); setting = 0 })
+    (record { scan = suc (p .scan); previous = 0; setting = 0 })))
 
 abbrev pub first-place : Place
-first-place = record { scan = 0; before = 0; setting = 0 }
+first-place = record { scan = 0; previous = 0; setting = 0 }
 
--- the lines of n cells from cell c on, which stands at place p
-abbrev pub export-from : ℕ → (rates distortions : List ℕ) → (n c : ℕ) → Place → List ℕ
-export-from Q rates distortions zero c p = []
-export-from Q rates distortions (suc n) c p =
-    cell-line p (getD rates c 0) (getD distortions c 0) ++ export-from Q rates distortions n (suc c) (next-place Q p)
+-- the place of cell c: c places on from the first
+abbrev pub place-at : ℕ → ℕ → Place
+place-at Q zero = first-place
+place-at Q (suc c) = next-place Q (place-at Q c)
+
+-- p is the place of cell c; at scan 0 there is no setting before, and 0 stands in its place
+pub record PlaceOf (Q c : ℕ) (p : Place) : Type 0 where
+  pub previous : p .previous < Q
+  pub setting : p .setting < Q
+  pub is : cell Q (p .scan) (p .previous) (p .setting) ≡ c
+  pub none-before : p .scan ≡ 0 → p .previous ≡ 0
+
+-- the lines of n cells from cell c on
+abbrev pub export-from : ℕ → (rates distortions : List ℕ) → (n c : ℕ) → List ℕ
+export-from Q rates distortions zero c = []
+export-from Q rates distortions (suc n) c =
+    cell-line (place-at Q c) (getD rates c 0) (getD distortions c 0) ++ export-from Q rates distortions n (suc c)
 
 unfoldable pub export-text : (N Q : ℕ) (rates distortions : List ℕ) → List ℕ
-export-text N Q rates distortions = export-from Q rates distortions (cells N Q) 0 first-place
+export-text N Q rates distortions = export-from Q rates distortions (cells N Q) 0
 
--- 7 as a test: a rate that is none, or beside one that is not forbidden a distortion that is none
-abbrev pub cell-illegal : (rates distortions : List ℕ) → ℕ → Bool
-cell-illegal rates distortions k =
-    not (leb (getD rates k 0) most-cell || eqb (getD rates k 0) forbidden) || not (leb (getD distortions k 0) most-cell || eqb (getD rates k 0) forbidden)
+-- 1, 2, 5 and 7
+abbrev pub early-checks : (N Q : ℕ) (rates distortions : List ℕ) → List (Option Refusal)
+early-checks N Q rates distortions =
+    when (scans-out N) refusal.Scans ∷ when (settings-out Q) refusal.Settings ∷ when (lengths-out N Q rates distortions) refusal.Lengths
+    ∷ found refusal.Cell (first-from (cell-illegal rates distortions) 0 (length rates)) ∷ []
+
+-- tables that passed 1, 2, 5 and 7
+pub record Exportable (N Q : ℕ) (rates distortions : List ℕ) : Type 0 where
+  pub some-scans : 1 ≤ N
+  pub scans : N ≤ most-scans
+  pub some-settings : 1 ≤ Q
+  pub settings : Q ≤ most-settings
+  pub rates-long : length rates ≡ cells N Q
+  pub distortions-long : length distortions ≡ cells N Q
+  pub legal : AllLegal rates distortions
 
 -- "On export 1, 2, 5, 7, then 6 for a text buffer too short."
 abbrev pub export-checks : (N Q : ℕ) (rates distortions : List ℕ) (room : ℕ) → List (Option Refusal)
 export-checks N Q rates distortions room =
-    when (scans-out N) refusal.Scans ∷ when (settings-out Q) refusal.Settings ∷ when (lengths-out N Q rates distortions) refusal.Lengths
-    ∷ found refusal.Cell (first-from (cell-illegal rates distortions) 0 (length rates))
-    ∷ when (ltb room (length (export-text N Q rates distortions))) refusal.Buffer ∷ []
+    early-checks N Q rates distortions ++ (when (ltb room (length (export-text N Q rates distortions))) refusal.Buffer ∷ [])
 
 unfoldable pub export-refusal : (N Q : ℕ) (rates distortions : List ℕ) (room : ℕ) → Option Refusal
 export-refusal N Q rates distortions room = first-refusal (export-checks N Q rates distortions room)

@@ -4,29 +4,25 @@ use crate::line::put_line;
 use crate::place::Place;
 use crate::place::next;
 use bytes::cast::cell_to_number;
-use checks::range::outside;
+use checks::check::check_cells;
+use checks::check::wrong_lengths;
+use checks::range::ranges;
 use checks::stage::Stage;
-use checks::stage::then;
 use checks::stage::unless;
-use legal::Legality;
-use legal::judge;
 use tables::cells::count;
 use tables::limits::FORBIDDEN;
 use tables::limits::MOST_SCANS;
-use tables::limits::MOST_SETTINGS;
 use tables::refusal::Refusal;
 ghost use mathlib.Core.Path.{_≡_};
-ghost use mathlib.Core.Bool.{not, _||_};
 ghost use Prim.Native.Nat.{_+_, _*_, _≤_};
-ghost use lib.Dec.{eqb};
 ghost use lib.ListN.{length};
 ghost use lib.Seq.{sets};
 ghost use Rattle.tables.specs.Tables.{cells};
 ghost use Rattle.tables.specs.Legal.{LegalRate, LegalBeside};
 ghost use Rattle.checks.specs.Checks.{«first-refusal»};
 ghost use Rattle.checks.specs.Stages.{ended};
-ghost use Rattle.exports.specs.Parts.{Placed, Exportable, «early-checks»};
-ghost use Rattle.exports.specs.Export.{«cell-line», «export-text», «export-of», «export-reply»};
+ghost use Rattle.exports.specs.Parts.{Placed};
+ghost use Rattle.exports.specs.Export.{«early-checks», «cell-line», «export-text», «export-of», «export-reply», Exportable};
 
 pub enum ExportAnswer {
     // the length of the text
@@ -34,38 +30,23 @@ pub enum ExportAnswer {
     Refused(Refusal),
 }
 
-// 5: not both of this length.
-fn wrong_lengths(cells: usize, rates: usize, distortions: usize) -> bool
-    ensures { λ r. ⌜ r ≡ (not (eqb rates cells) || not (eqb distortions cells)) ⌝ }
-{
-    if rates != cells {
-        return true;
-    }
-    distortions != cells
-}
-
 // 1, 2, 5 and 7.
 fn early(scans: u64, settings: u64, rates: &[u32], distortions: &[u32]) -> Stage
     ensures { λ r. ⌜ ended r ≡ first-refusal (early-checks scans settings (now (rates .entry)) (now (distortions .entry))) ⌝ }
 {
-    let first = unless(outside(MOST_SCANS, scans), Refusal::Scans);
-    let second = then(first, outside(MOST_SETTINGS, settings), Refusal::Settings);
-    let Stage::Passed = second else {
-        return second;
+    let ranged = ranges(MOST_SCANS, scans, settings, false);
+    let Stage::Passed = ranged else {
+        return ranged;
     };
     let cells = count(scans, settings) as usize;
-    let third = unless(
+    let fifth = unless(
         wrong_lengths(cells, rates.len(), distortions.len()),
         Refusal::Lengths,
     );
-    let Stage::Passed = third else {
-        return third;
+    let Stage::Passed = fifth else {
+        return fifth;
     };
-    let verdict = judge(rates, distortions);
-    let Legality::Illegal(k) = verdict else {
-        return Stage::Passed;
-    };
-    Stage::Stopped(Refusal::Cell(k as u64))
+    check_cells(rates, distortions)
 }
 
 // The bytes of the line of a cell: none where it is forbidden.
@@ -87,7 +68,7 @@ fn measure(scans: u64, settings: u64, rates: &[u32], distortions: &[u32]) -> usi
     let mut total = 0;
     let mut p = Place {
         scan: 0,
-        before: 0,
+        previous: 0,
         setting: 0,
     };
     for c in 0..rates.len() {
@@ -124,7 +105,7 @@ fn put_all(scans: u64, settings: u64, rates: &[u32], distortions: &[u32], text: 
     let mut at = 0;
     let mut p = Place {
         scan: 0,
-        before: 0,
+        previous: 0,
         setting: 0,
     };
     for c in 0..rates.len() {

@@ -16,14 +16,14 @@ use Rattle.tables.specs.Tables.{cells}
 use Rattle.tables.proofs.CellLaws.{cells-small}
 use Rattle.checks.specs.Checks.{when, or-else, first-refusal}
 use Rattle.checks.specs.Planning.{scans-out, settings-out}
-use Rattle.checks.proofs.CheckLaws.{none-when, none-else}
 use Rattle.checks.proofs.GiveLaws.{Gives, gives-when, gives-first}
 use Rattle.lines.specs.declared.says.Entry.{Entry}
 use Rattle.lines.specs.Text.{lines}
 use Rattle.lines.specs.Said.{says-of}
 use Rattle.imports.specs.Import.{cell-of, out-of-range, member, fault, seen-with, first-fault, import-short, early-import, import-refusal}
-use Rattle.imports.proofs.JudgeLaws.{in-range, cell-there}
-use Rattle.imports.proofs.ImportLaws.{admitted}
+use Rattle.imports.proofs.JudgeLaws.{cell-there}
+use Rattle.imports.proofs.WriteLaws.{good-in-range, new-cell}
+use Rattle.imports.proofs.ImportLaws.{import-admitted}
 
 -- ---- no more different numbers below n than n
 
@@ -106,9 +106,7 @@ good-names : (N Q k : ℕ) (seen : List ℕ) (o : Option Entry) → fault N Q k 
     (Distinct (seen-with Q o seen) × Below (cells N Q) (seen-with Q o seen)) × (length (seen-with Q o seen) ≡ suc (length seen))
 good-names N Q k seen none e d b = never cc
 good-names N Q k seen (some a) e d b =
-    let n = none-else (when (out-of-range N Q a) (refusal.OutOfRange k)) _ e in
-    let m = none-else (when (member (cell-of Q a) seen) (refusal.Twice k)) none (n .1) in
-    (((none-when _ _ (m .0), d), (cell-there (in-range (none-when _ _ (n .0))), b)), refl)
+    (((new-cell N Q k seen a e, d), (cell-there (good-in-range {N = N} {Q = Q} k seen (some a) refl e), b)), refl)
 
 first-carries : (N Q k : ℕ) (seen : List ℕ) (ls : List (List ℕ)) {r : Refusal} → k ≡ suc (length seen) → Distinct seen → Below (cells N Q) seen →
     first-fault N Q k seen ls ≡ some r → carriedBy r ≤ suc (cells N Q)
@@ -149,5 +147,5 @@ import-carries N Q text rates distortions scratch {r} e = of (early-import N Q r
     of : (o : Option Refusal) → early-import N Q rates distortions scratch ≡ o → Gives Small o → or-else o (first-fault N Q 1 [] (lines text)) ≡ some r → carriedBy r ≤ 261905
     of (some x) p g q = let z : x ≡ r = cc in let c : carriedBy x ≡ carriedBy r = ap carriedBy z in omega (arith, c, g)
     of none p g q =
-        let a = admitted N Q rates distortions scratch p in
+        let a = import-admitted N Q rates distortions scratch p in
         omega (arith, first-carries N Q 1 [] (lines text) refl tt tt q, cells-small {N = N} {Q = Q} (a .scans) (a .settings))

@@ -3,10 +3,10 @@ use mathlib.Core.Path.{_≡_, refl, sym, ap, _∙_}
 use mathlib.Core.Bool.{Bool, _||_}
 use mathlib.Core.Option.{Option, none, some}
 use mathlib.Core.List.{List, [], _∷_, _++_}
-use Prim.Native.Nat.{ℕ, _+_, _-_, _≤_}
+use Prim.Native.Nat.{ℕ, _+_, _-_, _≤_, _<_}
 use native.Mathlib.Omega.{arith}
 use lib.Dec.{ltb}
-use lib.ListN.{length, drop, replicate, length-append, length-replicate, length-drop, getD-replicate, List·getD-append}
+use lib.ListN.{length, getD, drop, replicate, length-append, length-replicate, length-drop, getD-replicate, List·getD-append}
 use lib.Seq.{drop-at, ext-getD, getD-drop}
 use borrow.Author.Tests.{ltb-false, le-ltb}
 use Rattle.laws.proofs.Tests.{neither, never}
@@ -15,29 +15,38 @@ use Rattle.tables.specs.declared.refusal.Refusal.the-variants as refusal
 use Rattle.tables.specs.Limits.{most-scans, most-settings}
 use Rattle.tables.specs.Tables.{cells}
 use Rattle.checks.specs.Checks.{when, or-else, first-refusal}
-use Rattle.checks.specs.declared.stage.Stage.{Stage}
-use Rattle.checks.specs.declared.stage.Stage.the-variants as stage
-use Rattle.checks.specs.Stages.{ended}
 use Rattle.checks.specs.Planning.{scans-out, settings-out}
 use Rattle.checks.proofs.CheckLaws.{none-when, none-else, all-pass, else-nothing}
 use Rattle.checks.proofs.RangeLaws.{in-range, passes-range}
 use Rattle.lines.specs.Text.{lines}
 use Rattle.imports.specs.Import.{first-fault, import-short, early-import, import-refusal, filled, rates-after, distortions-after, scratch-after, import-of}
-use Rattle.imports.specs.Parts.{Marks, Kept}
+use Rattle.imports.specs.Parts.{Marks, KeptBehind}
 
 -- what is filled is as long as it was
 pub length-filled : (k x : ℕ) (t : List ℕ) → k ≤ length t → length (filled k x t) ≡ length t
 length-filled k x t h = omega (arith, length-append (replicate k x) (drop k t), length-replicate k x, length-drop k t)
 
+-- the first k cells of what is filled
+pub fill-at : (k x : ℕ) (t : List ℕ) (i : ℕ) → i < k → getD (filled k x t) i 0 ≡ x
+fill-at k x t i h =
+    let n : length (replicate {A = ℕ} k x) ≡ k = length-replicate k x in
+    List·getD-append (replicate k x) (drop k t) 0 i (omega (arith, n)) ∙ getD-replicate k i x 0 h
+
+-- it has room for them
+pub fill-room : (k x : ℕ) (t : List ℕ) → k ≤ length (filled k x t)
+fill-room k x t = omega (arith, length-append (replicate k x) (drop k t), length-replicate k x)
+
+-- and behind them it is as it was
+pub fill-behind : (k x : ℕ) (t : List ℕ) → drop k (filled k x t) ≡ drop k t
+fill-behind k x t = drop-at (replicate k x) (drop k t) k (length-replicate k x)
+
 -- zero bytes mark no cell
 pub no-marks : (k : ℕ) (s : List ℕ) → Marks k (filled k 0 s) []
-no-marks k s c h =
-    let n : length (replicate {A = ℕ} k 0) ≡ k = length-replicate k 0 in
-    List·getD-append (replicate k 0) (drop k s) 0 c (omega (arith, n)) ∙ getD-replicate k c 0 0 h
+no-marks k s c h = fill-at k 0 s c h
 
 -- filled again, it is filled as before
-pub filled-again : (k : ℕ) (s after : List ℕ) → Kept k (filled k 0 s) after → filled k 0 after ≡ filled k 0 s
-filled-again k s after e = ap (λ (l : List ℕ). replicate k 0 ++ l) (rest ∙ drop-at (replicate k 0) (drop k s) k (length-replicate k 0))
+pub filled-again : (k : ℕ) (s after : List ℕ) → KeptBehind k (filled k 0 s) after → filled k 0 after ≡ filled k 0 s
+filled-again k s after e = ap (λ (l : List ℕ). replicate k 0 ++ l) (rest ∙ fill-behind k 0 s)
   where
     rest : drop k after ≡ drop k (filled k 0 s)
     rest = ext-getD 0 (drop k after) (drop k (filled k 0 s))
@@ -45,7 +54,7 @@ filled-again k s after e = ap (λ (l : List ℕ). replicate k 0 ++ l) (rest ∙ 
         (λ i h. getD-drop k after i 0 ∙ e .rest (k + i) (omega arith) ∙ sym (getD-drop k (filled k 0 s) i 0))
 
 -- what the checks before the lines have passed
-pub record Admitted (N Q rates distortions scratch : ℕ) : Type 0 where
+pub record ImportAdmitted (N Q rates distortions scratch : ℕ) : Type 0 where
   pub some-scans : 1 ≤ N
   pub scans : N ≤ most-scans
   pub some-settings : 1 ≤ Q
@@ -54,9 +63,9 @@ pub record Admitted (N Q rates distortions scratch : ℕ) : Type 0 where
   pub distortions-long : cells N Q ≤ distortions
   pub scratch-long : cells N Q ≤ scratch
 
-pub admitted : (N Q rates distortions scratch : ℕ) → early-import N Q rates distortions scratch ≡ none → Admitted N Q rates distortions scratch
+pub import-admitted : (N Q rates distortions scratch : ℕ) → early-import N Q rates distortions scratch ≡ none → ImportAdmitted N Q rates distortions scratch
 unfolding early-import
-admitted N Q rates distortions scratch e =
+import-admitted N Q rates distortions scratch e =
     let p = all-pass (when (scans-out N) refusal.Scans ∷ when (settings-out Q) refusal.Settings ∷ when (import-short N Q rates distortions scratch) refusal.Buffer ∷ []) e in
     let n = in-range {most = most-scans} {x = N} (none-when _ _ (p .0)) in
     let q = in-range {most = most-settings} {x = Q} (none-when _ _ (p .1 .0)) in
@@ -72,9 +81,9 @@ admitted N Q rates distortions scratch e =
       scratch-long = ltb-false _ _ (b .1);
     }
 
-pub admits : {N Q rates distortions scratch : ℕ} → Admitted N Q rates distortions scratch → early-import N Q rates distortions scratch ≡ none
+pub import-admits : {N Q rates distortions scratch : ℕ} → ImportAdmitted N Q rates distortions scratch → early-import N Q rates distortions scratch ≡ none
 unfolding early-import
-admits {N} {Q} {rates} {distortions} {scratch} a =
+import-admits {N} {Q} {rates} {distortions} {scratch} a =
     rw (
       passes-range (a .some-scans) (a .scans),
       passes-range (a .some-settings) (a .settings),
@@ -168,20 +177,13 @@ module _ (N Q : ℕ) (text rates distortions scratch : List ℕ) where
 
 -- an import that is not refused has passed the checks, and no line has a fault
 pub import-passed : (N Q : ℕ) (text rates distortions scratch : List ℕ) → import-of N Q text rates distortions scratch .ends ≡ none →
-    Admitted N Q (length rates) (length distortions) (length scratch) × (first-fault N Q 1 [] (lines text) ≡ none)
+    ImportAdmitted N Q (length rates) (length distortions) (length scratch) × (first-fault N Q 1 [] (lines text) ≡ none)
 unfolding import-refusal
 import-passed N Q text rates distortions scratch e =
     let b = none-else (early-import N Q (length rates) (length distortions) (length scratch)) (first-fault N Q 1 [] (lines text)) e in
-    (admitted N Q (length rates) (length distortions) (length scratch) (b .0), b .1)
+    (import-admitted N Q (length rates) (length distortions) (length scratch) (b .0), b .1)
 
 -- .. and one that has is not refused
-pub import-passes : (N Q : ℕ) (text rates distortions scratch : List ℕ) → Admitted N Q (length rates) (length distortions) (length scratch) →
+pub import-passes : (N Q : ℕ) (text rates distortions scratch : List ℕ) → ImportAdmitted N Q (length rates) (length distortions) (length scratch) →
     first-fault N Q 1 [] (lines text) ≡ none → import-of N Q text rates distortions scratch .ends ≡ none
-import-passes N Q text rates distortions scratch a f = by-parts N Q text rates distortions scratch (admits a) f
-
--- two answers that end alike are the same
-pub import-unique : (a b : Stage) → ended a ≡ ended b → a ≡ b
-import-unique stage.Passed stage.Passed e = refl
-import-unique stage.Passed (stage.Stopped r) e = never cc
-import-unique (stage.Stopped r) stage.Passed e = never cc
-import-unique (stage.Stopped r) (stage.Stopped r′) e = ap stage.Stopped cc
+import-passes N Q text rates distortions scratch a f = by-parts N Q text rates distortions scratch (import-admits a) f

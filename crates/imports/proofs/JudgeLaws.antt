@@ -24,7 +24,7 @@ use Rattle.lines.specs.Said.{says-of}
 use Rattle.lines.specs.Parts.{LineEnds}
 use Rattle.lines.proofs.LineLaws.{lines-go-on, no-lines}
 use Rattle.imports.specs.Import.{cell-of, out-of-range, member, fault, seen-with, first-fault}
-use Rattle.imports.specs.Parts.{Marks, Kept, Judged}
+use Rattle.imports.specs.Parts.{Marks, KeptBehind, LineJudged}
 
 -- the numbers of a line that are in range
 pub record InRange (N Q : ℕ) (e : Entry) : Type 0 where
@@ -34,9 +34,9 @@ pub record InRange (N Q : ℕ) (e : Entry) : Type 0 where
   pub rate : e .rate ≤ most-cell
   pub distortion : e .distortion ≤ most-cell
 
-pub in-range : {N Q : ℕ} {e : Entry} → out-of-range N Q e ≡ false → InRange N Q e
+pub numbers-in-range : {N Q : ℕ} {e : Entry} → out-of-range N Q e ≡ false → InRange N Q e
 unfolding out-of-range
-in-range {N} {Q} {e} h =
+numbers-in-range {N} {Q} {e} h =
     let a = neither (leb N (e .scan)) _ h in
     let b = neither (leb Q (e .previous)) _ (a .1) in
     let c = neither (leb Q (e .setting)) _ (b .1) in
@@ -54,14 +54,14 @@ pub cell-there : {N Q : ℕ} {e : Entry} → InRange N Q e → cell-of Q e < cel
 cell-there {N} {Q} {e} r = cell-inside N Q (e .scan) (e .previous) (e .setting) (r .scan) (r .previous) (r .setting)
 
 -- nothing has changed
-pub kept-none : {k : ℕ} (s : List ℕ) → Kept k s s
+pub kept-none : {k : ℕ} (s : List ℕ) → KeptBehind k s s
 kept-none s = record { long = refl; rest = λ i h. refl }
 
-pub kept-on : {k : ℕ} {a b c : List ℕ} → Kept k a b → Kept k b c → Kept k a c
+pub kept-on : {k : ℕ} {a b c : List ℕ} → KeptBehind k a b → KeptBehind k b c → KeptBehind k a c
 kept-on f g = record { long = cc (f .long, g .long); rest = λ i h. cc (f .rest i h, g .rest i h) }
 
 module _ (N Q k : ℕ) (s : List ℕ) {said : Option Entry} where
-  pub judged-malformed : said ≡ none → Judged N Q k (cells N Q) said s s (some (refusal.Malformed k))
+  pub judged-malformed : said ≡ none → LineJudged N Q k (cells N Q) said s s (some (refusal.Malformed k))
   judged-malformed e = record {
     found = λ seen m. sym (ap (fault N Q k seen) e);
     marked = λ seen m q. never cc;
@@ -75,7 +75,7 @@ module _ (N Q k : ℕ) (s : List ℕ) {said : Option Entry} where
     by-tests seen {a} p q = ap (fault N Q k seen) is ∙ ap (λ (t : Bool). first-refusal (when t (refusal.OutOfRange k) ∷ when (member (cell-of Q e) seen) (refusal.Twice k) ∷ [])) p ∙ ap
         (λ (t : Bool). first-refusal (when a (refusal.OutOfRange k) ∷ when t (refusal.Twice k) ∷ [])) q
 
-    pub judged-out : out-of-range N Q e ≡ true → Judged N Q k (cells N Q) said s s (some (refusal.OutOfRange k))
+    pub judged-out : out-of-range N Q e ≡ true → LineJudged N Q k (cells N Q) said s s (some (refusal.OutOfRange k))
     judged-out h = record {
       found = λ seen m. sym (by-tests seen h refl);
       marked = λ seen m q. never cc;
@@ -97,9 +97,9 @@ module _ (N Q k : ℕ) (s : List ℕ) {said : Option Entry} where
         of true h = absurd (let q : 0 ≡ 1 = sym z ∙ h in omega arith)
         of false h = refl
 
-    pub judged-twice : out-of-range N Q e ≡ false → getD s (cell-of Q e) 0 ≢ 0 → Judged N Q k (cells N Q) said s s (some (refusal.Twice k))
+    pub judged-twice : out-of-range N Q e ≡ false → getD s (cell-of Q e) 0 ≢ 0 → LineJudged N Q k (cells N Q) said s s (some (refusal.Twice k))
     judged-twice h n = record {
-      found = λ seen m. sym (by-tests seen h (named seen m (in-range h) n));
+      found = λ seen m. sym (by-tests seen h (named seen m (numbers-in-range h) n));
       marked = λ seen m q. never cc;
       kept = kept-none s;
     }
@@ -118,9 +118,9 @@ module _ (N Q k : ℕ) (s : List ℕ) {said : Option Entry} where
             ∙ sym (ap (λ (b : Bool). cond (b || member c seen) 1 0) (ne-eqb c (cell-of Q e) z))
 
     pub judged-good : (s′ : List ℕ) → out-of-range N Q e ≡ false → getD s (cell-of Q e) 0 ≡ 0 → cells N Q ≤ length s → s′ ≡ set s (cell-of Q e) 1 →
-        Judged N Q k (cells N Q) said s s′ none
+        LineJudged N Q k (cells N Q) said s s′ none
     judged-good s′ h z long p =
-        let r = in-range h in
+        let r = numbers-in-range h in
         let there = cell-there r in
         record {
           found = λ seen m. sym (by-tests seen h (not-named seen m r z));
@@ -139,7 +139,7 @@ pub record JudgedSoFar (N Q : ℕ) (text scratch₀ scratch : List ℕ) (k at : 
   pub seen : List ℕ
   pub marks : Marks (cells N Q) scratch seen
   pub same : first-fault N Q 1 [] (lines text) ≡ first-fault N Q k seen (lines (drop at text))
-  pub kept : Kept (cells N Q) scratch₀ scratch
+  pub kept : KeptBehind (cells N Q) scratch₀ scratch
 
 pub judging-starts : (N Q : ℕ) (text scratch : List ℕ) → Marks (cells N Q) scratch [] → JudgedSoFar N Q text scratch scratch 1 0
 judging-starts N Q text scratch m =
@@ -153,7 +153,7 @@ pub record LineAt (text : List ℕ) (at end next : ℕ) : Type 0 where
 
 module _ {N Q : ℕ} {text scratch₀ scratch scratch′ : List ℕ} {k at end next : ℕ} {o : Option Refusal}
     (so-far : JudgedSoFar N Q text scratch₀ scratch k at) (line : LineAt text at end next)
-    (judged : Judged N Q k (cells N Q) (says-of (slice at end text)) scratch scratch′ o) where
+    (judged : LineJudged N Q k (cells N Q) (says-of (slice at end text)) scratch scratch′ o) where
   -- what is found from this line on
   from-here : first-fault N Q 1 [] (lines text) ≡ or-else o (first-fault N Q (suc k) (seen-with Q (says-of (slice at end text)) (so-far .seen)) (lines (drop next text)))
   from-here =
@@ -183,30 +183,21 @@ pub judging-ends : {N Q : ℕ} {text scratch₀ scratch : List ℕ} {k at : ℕ}
 judging-ends {N} {Q} {text} {k = k} s h = sym (s .same ∙ ap (first-fault N Q k (s .seen)) (no-lines text h))
 
 -- where the next line starts
-pub line-at : {text : List ℕ} {at end next : ℕ} → at < length text → LineEnds text at end → next ≤ length text → (end < length text → end < next) →
-    (next ≡ length text → length text ≤ end + 2) → (next < length text → next ≡ end + 2) → LineAt text at end next
-line-at {text} {at} {end} {next} h e i f g p = record {
-  further = of (ltb end (length text)) refl;
-  inside = i;
-  lines-are = lines-go-on h e ∙ ap (λ (l : List (List ℕ)). slice at end text ∷ l) (there (ltb next (length text)) refl);
+pub line-at : {text : List ℕ} {at end next : ℕ} → at < length text → LineEnds text at end → next ≡ min (end + 2) (length text) → LineAt text at end next
+line-at {text} {at} {end} {next} h e q = record {
+  further = omega (arith, e .order, e .inside);
+  inside = omega arith;
+  lines-are = lines-go-on h e ∙ ap (λ (l : List (List ℕ)). slice at end text ∷ l) (there (ltb (end + 2) (length text)) refl);
 }
   where
-    of : (b : Bool) → ltb end (length text) ≡ b → at < next
-    of true q = omega (arith, e .order, f (ltb-true end (length text) q))
-    of false q = let z = ltb-false end (length text) q in let w = e .inside in of-next (ltb next (length text)) refl
-      where
-        of-next : (b : Bool) → ltb next (length text) ≡ b → at < next
-        of-next true r = let u = p (ltb-true next (length text) r) in omega (arith, e .order)
-        of-next false r = omega (arith, ltb-false next (length text) r)
-
-    there : (b : Bool) → ltb next (length text) ≡ b → lines (drop (end + 2) text) ≡ lines (drop next text)
-    there true r = ap (λ (n : ℕ). lines (drop n text)) (sym (p (ltb-true next (length text) r)))
+    there : (b : Bool) → ltb (end + 2) (length text) ≡ b → lines (drop (end + 2) text) ≡ lines (drop next text)
+    there true r =
+        let z : end + 2 ≡ next = omega (arith, ltb-true (end + 2) (length text) r) in
+        ap (λ (n : ℕ). lines (drop n text)) z
     there false r =
-        let z : next ≡ length text = omega (arith, ltb-false next (length text) r) in
-        no-lines text {at = end + 2} (g z) ∙ sym (no-lines text {at = next} (omega arith))
+        let z = ltb-false (end + 2) (length text) r in
+        no-lines text {at = end + 2} z ∙ sym (no-lines text {at = next} (omega arith))
 
 -- a line that starts here, and the place behind it
 pub line-there : {text : List ℕ} {at end : ℕ} → at < length text → LineEnds text at end → LineAt text at end (min (end + 2) (length text))
-line-there {text} {at} {end} h e =
-    let i = e .inside in
-    line-at h e (omega arith) (λ g. omega arith) (λ g. omega arith) (λ g. omega arith)
+line-there h e = line-at h e refl

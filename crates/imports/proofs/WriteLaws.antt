@@ -1,5 +1,6 @@
 -- One line written after the other. Assumes nothing.
 use mathlib.Core.Path.{_≡_, refl, sym, ap, _∙_}
+use mathlib.Core.Bool.{false}
 use mathlib.Core.Option.{Option, none, some}
 use mathlib.Core.List.{List, []}
 use Prim.Native.Nat.{ℕ, suc, _≤_}
@@ -13,32 +14,30 @@ use Rattle.lines.specs.declared.says.Entry.{Entry}
 use Rattle.lines.specs.Text.{lines}
 use Rattle.lines.specs.Said.{says-of}
 use Rattle.lines.proofs.LineLaws.{no-lines}
-use Rattle.imports.specs.Import.{cell-of, out-of-range, fault, seen-with, first-fault, with-rate, with-distortion, rates-from, distortions-from}
-use Rattle.imports.proofs.JudgeLaws.{InRange, in-range, LineAt}
+use Rattle.imports.specs.Import.{cell-of, out-of-range, member, fault, seen-with, first-fault, with-said, rate-of, distortion-of, table-from}
+use Rattle.imports.proofs.JudgeLaws.{InRange, numbers-in-range, LineAt}
 
 -- a line without a fault says something, and that in range
 pub good-in-range : {N Q : ℕ} (k : ℕ) (seen : List ℕ) {e : Entry} (said : Option Entry) → said ≡ some e → fault N Q k seen said ≡ none → InRange N Q e
 good-in-range {N} {Q} k seen {e} said is h =
     let f : fault N Q k seen (some e) ≡ none = sym (ap (fault N Q k seen) is) ∙ h in
-    in-range (none-when (out-of-range N Q e) (refusal.OutOfRange k) (none-else (when (out-of-range N Q e) (refusal.OutOfRange k)) _ f .0))
+    numbers-in-range (none-when (out-of-range N Q e) (refusal.OutOfRange k) (none-else (when (out-of-range N Q e) (refusal.OutOfRange k)) _ f .0))
+
+-- a line without a fault names a cell that none before it named
+pub new-cell : (N Q k : ℕ) (seen : List ℕ) (e : Entry) → fault N Q k seen (some e) ≡ none → member (cell-of Q e) seen ≡ false
+new-cell N Q k seen e h =
+    let b = none-else (when (out-of-range N Q e) (refusal.OutOfRange k)) _ h in
+    none-when (member (cell-of Q e) seen) (refusal.Twice k) (none-else (when (member (cell-of Q e) seen) (refusal.Twice k)) none (b .1) .0)
 
 -- a table is as long as it was
-length-with-rate : (Q : ℕ) (t : List ℕ) (o : Option Entry) → length (with-rate Q t o) ≡ length t
-length-with-rate Q t none = refl
-length-with-rate Q t (some e) = length-set t (cell-of Q e) (e .rate)
-
-length-with-distortion : (Q : ℕ) (t : List ℕ) (o : Option Entry) → length (with-distortion Q t o) ≡ length t
-length-with-distortion Q t none = refl
-length-with-distortion Q t (some e) = length-set t (cell-of Q e) (e .distortion)
+length-with : (number : Entry → ℕ) (Q : ℕ) (t : List ℕ) (o : Option Entry) → length (with-said number Q t o) ≡ length t
+length-with number Q t none = refl
+length-with number Q t (some e) = length-set t (cell-of Q e) (number e)
 
 -- a cell that was written is what the line says of it
-pub rate-written : (Q : ℕ) (rates : List ℕ) {said : Option Entry} {e : Entry} {at x : ℕ} → said ≡ some e → at ≡ cell-of Q e → x ≡ e .rate → set rates at x ≡ with-rate Q rates said
-rate-written Q rates {e = e} {x = x} is p q = ap (λ (k : ℕ). set rates k x) p ∙ ap (set rates (cell-of Q e)) q ∙ sym (ap (with-rate Q rates) is)
-
-pub distortion-written : (Q : ℕ) (distortions : List ℕ) {said : Option Entry} {e : Entry} {at x : ℕ} → said ≡ some e → at ≡ cell-of Q e → x ≡ e .distortion →
-    set distortions at x ≡ with-distortion Q distortions said
-distortion-written Q distortions {e = e} {x = x} is p q =
-    ap (λ (k : ℕ). set distortions k x) p ∙ ap (set distortions (cell-of Q e)) q ∙ sym (ap (with-distortion Q distortions) is)
+pub cell-written : (number : Entry → ℕ) (Q : ℕ) (t : List ℕ) {said : Option Entry} {e : Entry} {at x : ℕ} → said ≡ some e → at ≡ cell-of Q e → x ≡ number e →
+    set t at x ≡ with-said number Q t said
+cell-written number Q t {e = e} {x = x} is p q = ap (λ (k : ℕ). set t k x) p ∙ ap (set t (cell-of Q e)) q ∙ sym (ap (with-said number Q t) is)
 
 -- what is known at place `at` of a text without a fault
 pub record WrittenSoFar (N Q : ℕ) (text rates₀ distortions₀ rates distortions : List ℕ) (at : ℕ) : Type 0 where
@@ -46,8 +45,8 @@ pub record WrittenSoFar (N Q : ℕ) (text rates₀ distortions₀ rates distorti
   pub k : ℕ
   pub seen : List ℕ
   pub none-left : first-fault N Q k seen (lines (drop at text)) ≡ none
-  pub rates-are : rates-from Q rates₀ (lines text) ≡ rates-from Q rates (lines (drop at text))
-  pub distortions-are : distortions-from Q distortions₀ (lines text) ≡ distortions-from Q distortions (lines (drop at text))
+  pub rates-are : table-from rate-of Q rates₀ (lines text) ≡ table-from rate-of Q rates (lines (drop at text))
+  pub distortions-are : table-from distortion-of Q distortions₀ (lines text) ≡ table-from distortion-of Q distortions (lines (drop at text))
   pub rates-long : length rates ≡ length rates₀
   pub distortions-long : length distortions ≡ length distortions₀
 
@@ -75,22 +74,22 @@ module _ {N Q : ℕ} {text rates₀ distortions₀ rates distortions : List ℕ}
   pub no-fault : fault N Q (so-far .k) (so-far .seen) (says-of (slice at end text)) ≡ none
   no-fault = both .0
 
-  pub writing-goes-on : {rates′ distortions′ : List ℕ} → rates′ ≡ with-rate Q rates (says-of (slice at end text)) →
-      distortions′ ≡ with-distortion Q distortions (says-of (slice at end text)) → WrittenSoFar N Q text rates₀ distortions₀ rates′ distortions′ next
+  pub writing-goes-on : {rates′ distortions′ : List ℕ} → rates′ ≡ with-said rate-of Q rates (says-of (slice at end text)) →
+      distortions′ ≡ with-said distortion-of Q distortions (says-of (slice at end text)) → WrittenSoFar N Q text rates₀ distortions₀ rates′ distortions′ next
   writing-goes-on r d = record {
     inside = line .inside;
     k = suc (so-far .k);
     seen = seen-with Q (says-of (slice at end text)) (so-far .seen);
     none-left = both .1;
-    rates-are = so-far .rates-are ∙ ap (rates-from Q rates) (line .lines-are) ∙ ap (λ (t : List ℕ). rates-from Q t (lines (drop next text))) (sym r);
-    distortions-are = so-far .distortions-are ∙ ap (distortions-from Q distortions) (line .lines-are)
-        ∙ ap (λ (t : List ℕ). distortions-from Q t (lines (drop next text))) (sym d);
-    rates-long = ap length r ∙ length-with-rate Q rates (says-of (slice at end text)) ∙ so-far .rates-long;
-    distortions-long = ap length d ∙ length-with-distortion Q distortions (says-of (slice at end text)) ∙ so-far .distortions-long;
+    rates-are = so-far .rates-are ∙ ap (table-from rate-of Q rates) (line .lines-are) ∙ ap (λ (t : List ℕ). table-from rate-of Q t (lines (drop next text))) (sym r);
+    distortions-are = so-far .distortions-are ∙ ap (table-from distortion-of Q distortions) (line .lines-are)
+        ∙ ap (λ (t : List ℕ). table-from distortion-of Q t (lines (drop next text))) (sym d);
+    rates-long = ap length r ∙ length-with rate-of Q rates (says-of (slice at end text)) ∙ so-far .rates-long;
+    distortions-long = ap length d ∙ length-with distortion-of Q distortions (says-of (slice at end text)) ∙ so-far .distortions-long;
   }
 
 -- the end of the text
 pub writing-ends : {N Q : ℕ} {text rates₀ distortions₀ rates distortions : List ℕ} {at : ℕ} → WrittenSoFar N Q text rates₀ distortions₀ rates distortions at →
-    length text ≤ at → (rates ≡ rates-from Q rates₀ (lines text)) × (distortions ≡ distortions-from Q distortions₀ (lines text))
+    length text ≤ at → (rates ≡ table-from rate-of Q rates₀ (lines text)) × (distortions ≡ table-from distortion-of Q distortions₀ (lines text))
 writing-ends {N} {Q} {text} {rates = rates} {distortions = distortions} s h =
-    (sym (s .rates-are ∙ ap (rates-from Q rates) (no-lines text h)), sym (s .distortions-are ∙ ap (distortions-from Q distortions) (no-lines text h)))
+    (sym (s .rates-are ∙ ap (table-from rate-of Q rates) (no-lines text h)), sym (s .distortions-are ∙ ap (table-from distortion-of Q distortions) (no-lines text h)))

@@ -58,36 +58,37 @@ early-import N Q rates distortions scratch =
 unfoldable pub import-refusal : (N Q : ℕ) (text : List ℕ) (rates distortions scratch : ℕ) → Option Refusal
 import-refusal N Q text rates distortions scratch = or-else (early-import N Q rates distortions scratch) (first-fault N Q 1 [] (lines text))
 
--- a table with what a line says of it
-abbrev pub with-rate : ℕ → List ℕ → Option Entry → List ℕ
-with-rate Q rates none = rates
-with-rate Q rates (some e) = set rates (cell-of Q e) (e .rate)
-
-abbrev pub with-distortion : ℕ → List ℕ → Option Entry → List ℕ
-with-distortion Q distortions none = distortions
-with-distortion Q distortions (some e) = set distortions (cell-of Q e) (e .distortion)
+-- a table with what a line says of it, where `number` takes the table's number of what is said
+abbrev pub with-said : (number : Entry → ℕ) (Q : ℕ) → List ℕ → Option Entry → List ℕ
+with-said number Q table none = table
+with-said number Q table (some e) = set table (cell-of Q e) (number e)
 
 -- .. and with what all of them say
-abbrev pub rates-from : ℕ → List ℕ → List (List ℕ) → List ℕ
-rates-from Q rates [] = rates
-rates-from Q rates (l ∷ ls) = rates-from Q (with-rate Q rates (says-of l)) ls
+abbrev pub table-from : (number : Entry → ℕ) (Q : ℕ) → List ℕ → List (List ℕ) → List ℕ
+table-from number Q table [] = table
+table-from number Q table (l ∷ ls) = table-from number Q (with-said number Q table (says-of l)) ls
 
-abbrev pub distortions-from : ℕ → List ℕ → List (List ℕ) → List ℕ
-distortions-from Q distortions [] = distortions
-distortions-from Q distortions (l ∷ ls) = distortions-from Q (with-distortion Q distortions (says-of l)) ls
-
--- "A cell with no line becomes forbidden with distortion 0"; "extra cells .. never change"
+-- "A cell with no line becomes forbidden with distortion 0": x in the first k cells. "extra cells .. never change"
 abbrev pub filled : ℕ → ℕ → List ℕ → List ℕ
 filled k x table = replicate k x ++ drop k table
 
--- "Tables and text stay the same on any refusal"
+-- "Tables and text stay the same on any refusal"; otherwise the table is `fill` where no line names a cell
+abbrev pub table-after : (number : Entry → ℕ) (fill : ℕ) → Option Refusal → (N Q : ℕ) (text table : List ℕ) → List ℕ
+table-after number fill none N Q text table = table-from number Q (filled (cells N Q) fill table) (lines text)
+table-after number fill (some r) N Q text table = table
+
+-- the two tables
+abbrev pub rate-of : Entry → ℕ
+rate-of e = e .rate
+
+abbrev pub distortion-of : Entry → ℕ
+distortion-of e = e .distortion
+
 abbrev pub rates-after : Option Refusal → (N Q : ℕ) (text rates : List ℕ) → List ℕ
-rates-after none N Q text rates = rates-from Q (filled (cells N Q) forbidden rates) (lines text)
-rates-after (some r) N Q text rates = rates
+rates-after = table-after rate-of forbidden
 
 abbrev pub distortions-after : Option Refusal → (N Q : ℕ) (text distortions : List ℕ) → List ℕ
-distortions-after none N Q text distortions = distortions-from Q (filled (cells N Q) 0 distortions) (lines text)
-distortions-after (some r) N Q text distortions = distortions
+distortions-after = table-after distortion-of 0
 
 -- "A lent scratch of one byte a cell is zero after success and after 16 to 18"; "scratch too on 1, 2 and 6"
 abbrev pub scratch-after : Option Refusal → (N Q : ℕ) (scratch : List ℕ) → List ℕ

@@ -14,12 +14,12 @@ abbrev pub Marks : ℕ → List ℕ → List ℕ → Type 0
 Marks k scratch seen = (c : ℕ) → c < k → getD scratch c 0 ≡ cond (member c seen) 1 0
 
 -- as long as it was, and past its first k bytes as it was
-pub record Kept (k : ℕ) (before after : List ℕ) : Type 0 where
+pub record KeptBehind (k : ℕ) (before after : List ℕ) : Type 0 where
   pub long : length after ≡ length before
   pub rest : (i : ℕ) → k ≤ i → getD after i 0 ≡ getD before i 0
 
 -- one line was judged
-pub record Judged (N Q k cells : ℕ) (said : Option Entry) (before after : List ℕ) (ends : Option Refusal) : Type 0 where
+pub record LineJudged (N Q k cells : ℕ) (said : Option Entry) (before after : List ℕ) (ends : Option Refusal) : Type 0 where
   pub found : (seen : List ℕ) → Marks cells before seen → ends ≡ fault N Q k seen said
   pub marked : (seen : List ℕ) → Marks cells before seen → ends ≡ none → Marks cells after (seen-with Q said seen)
-  pub kept : Kept cells before after
+  pub kept : KeptBehind cells before after

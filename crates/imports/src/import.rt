@@ -1,14 +1,12 @@
 // Import: the checks, the first walk, and where no line has a fault the second.
 use crate::judge::judge;
 use crate::write::write;
-use checks::range::outside;
+use checks::range::ranges;
 use checks::stage::Stage;
-use checks::stage::then;
 use checks::stage::unless;
 use tables::cells::count;
 use tables::limits::FORBIDDEN;
 use tables::limits::MOST_SCANS;
-use tables::limits::MOST_SETTINGS;
 use tables::refusal::Refusal;
 ghost use mathlib.Core.Path.{_≡_};
 ghost use mathlib.Core.Bool.{_||_};
@@ -21,7 +19,7 @@ ghost use Rattle.tables.specs.Limits.{«most-scans», «most-settings», forbid
 ghost use Rattle.tables.specs.Tables.{cells};
 ghost use Rattle.checks.specs.Stages.{ended};
 ghost use Rattle.lines.specs.Text.{lines};
-ghost use Rattle.imports.specs.Import.{«early-import», «first-fault», filled, «rates-from», «distortions-from», «import-of»};
+ghost use Rattle.imports.specs.Import.{«early-import», «first-fault», filled, «import-of», «table-from», «rate-of», «distortion-of»};
 
 // A table or scratch shorter than the cells of one table.
 fn too_short(cells: usize, rates: usize, distortions: usize, scratch: usize) -> bool
@@ -40,10 +38,9 @@ fn too_short(cells: usize, rates: usize, distortions: usize, scratch: usize) -> 
 fn early(scans: u64, settings: u64, rates: usize, distortions: usize, scratch: usize) -> Stage
     ensures { λ r. ⌜ ended r ≡ early-import scans settings rates distortions scratch ⌝ }
 {
-    let first = unless(outside(MOST_SCANS, scans), Refusal::Scans);
-    let second = then(first, outside(MOST_SETTINGS, settings), Refusal::Settings);
-    let Stage::Passed = second else {
-        return second;
+    let ranged = ranges(MOST_SCANS, scans, settings, false);
+    let Stage::Passed = ranged else {
+        return ranged;
     };
     let cells = count(scans, settings) as usize;
     unless(
@@ -88,8 +85,8 @@ fn judged(scans: u64, settings: u64, text: &[u8], scratch: &mut [u8]) -> Stage
 fn written(scans: u64, settings: u64, text: &[u8], rates: &mut [u32], distortions: &mut [u32])
     requires { ⌜ (1 ≤ scans) × ((scans ≤ most-scans) × ((settings ≤ most-settings) × ((cells scans settings ≤ length (now rates)) × (cells scans settings ≤ length (now distortions))))) ⌝ }
     requires { ⌜ first-fault scans settings 1 [] (lines (now text)) ≡ none ⌝ }
-    ensures { λ _. ⌜ now (rates .exit) ≡ rates-from settings (filled (cells scans settings) forbidden (now (rates .entry))) (lines (now (text .entry))) ⌝ }
-    ensures { λ _. ⌜ now (distortions .exit) ≡ distortions-from settings (filled (cells scans settings) 0 (now (distortions .entry))) (lines (now (text .entry))) ⌝ }
+    ensures { λ _. ⌜ now (rates .exit) ≡ table-from rate-of settings (filled (cells scans settings) forbidden (now (rates .entry))) (lines (now (text .entry))) ⌝ }
+    ensures { λ _. ⌜ now (distortions .exit) ≡ table-from distortion-of settings (filled (cells scans settings) 0 (now (distortions .entry))) (lines (now (text .entry))) ⌝ }
 {
     let need = count(scans, settings) as usize;
     fill(rates, need, FORBIDDEN);

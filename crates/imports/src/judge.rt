@@ -2,6 +2,7 @@
 use bytes::cast::byte_to_number;
 use bytes::cast::cell_to_number;
 use checks::stage::Stage;
+use lines::ends::behind;
 use lines::says::Entry;
 use lines::says::Line;
 use plain::line::line_at;
@@ -10,7 +11,7 @@ use tables::limits::MOST_CELL;
 use tables::refusal::Refusal;
 ghost use mathlib.Core.Path.{_≡_};
 ghost use mathlib.Core.List.{[]};
-ghost use Prim.Native.Nat.{_+_, _≤_, _<_};
+ghost use Prim.Native.Nat.{_≤_};
 ghost use lib.ListN.{length};
 ghost use Rattle.tables.specs.Limits.{«most-scans», «most-settings»};
 ghost use Rattle.tables.specs.Tables.{cells};
@@ -18,10 +19,10 @@ ghost use Rattle.checks.specs.Stages.{ended};
 ghost use Rattle.lines.specs.Text.{lines};
 ghost use Rattle.lines.specs.Parts.{«line-said»};
 ghost use Rattle.imports.specs.Import.{«out-of-range», «first-fault»};
-ghost use Rattle.imports.specs.Parts.{Marks, Kept, Judged};
+ghost use Rattle.imports.specs.Parts.{Marks, KeptBehind, LineJudged};
 
 // 17: a number of a line is out of range.
-fn outside(scans: u64, settings: u64, e: Entry) -> bool
+fn out_of_range(scans: u64, settings: u64, e: Entry) -> bool
     ensures { λ r. ⌜ r ≡ out-of-range scans settings e ⌝ }
 {
     if scans <= e.scan {
@@ -42,12 +43,12 @@ fn outside(scans: u64, settings: u64, e: Entry) -> bool
 // One line, the k-th: its fault, if it has one; otherwise its cell is marked.
 fn judge_line(scans: u64, settings: u64, k: u64, line: Line, scratch: &mut [u8]) -> Stage
     requires { ⌜ (1 ≤ scans) × ((scans ≤ most-scans) × ((settings ≤ most-settings) × (cells scans settings ≤ length (now scratch)))) ⌝ }
-    ensures { λ r. ⌜ Judged scans settings k (cells scans settings) (line-said line) (now (scratch .entry)) (now (scratch .exit)) (ended r) ⌝ }
+    ensures { λ r. ⌜ LineJudged scans settings k (cells scans settings) (line-said line) (now (scratch .entry)) (now (scratch .exit)) (ended r) ⌝ }
 {
     let Line::Says(e) = line else {
         return Stage::Stopped(Refusal::Malformed(k));
     };
-    if outside(scans, settings, e) {
+    if out_of_range(scans, settings, e) {
         return Stage::Stopped(Refusal::OutOfRange(k));
     }
     let at = number(settings, e.scan, e.previous, e.setting) as usize;
@@ -58,22 +59,11 @@ fn judge_line(scans: u64, settings: u64, k: u64, line: Line, scratch: &mut [u8])
     Stage::Passed
 }
 
-// The place behind a line that ends at `end`: behind its line end, or the end of the text.
-pub fn behind(end: usize, text: usize) -> usize
-    requires { ⌜ end ≤ text ⌝ }
-    ensures { λ r. ⌜ (r ≤ text) × ((end < text → end < r) × (r ≡ text → text ≤ end + 2) × (r < text → r ≡ end + 2)) ⌝ }
-{
-    if text - end < 2 {
-        return text;
-    }
-    end + 2
-}
-
 // All lines, one after the other.
 pub fn judge(scans: u64, settings: u64, text: &[u8], scratch: &mut [u8]) -> Stage
     requires { ⌜ (1 ≤ scans) × ((scans ≤ most-scans) × ((settings ≤ most-settings) × (cells scans settings ≤ length (now scratch)))) ⌝ }
     requires { ⌜ Marks (cells scans settings) (now scratch) [] ⌝ }
-    ensures { λ r. ⌜ (ended r ≡ first-fault scans settings 1 [] (lines (now (text .entry)))) × Kept (cells scans settings) (now (scratch .entry)) (now (scratch .exit)) ⌝ }
+    ensures { λ r. ⌜ (ended r ≡ first-fault scans settings 1 [] (lines (now (text .entry)))) × KeptBehind (cells scans settings) (now (scratch .entry)) (now (scratch .exit)) ⌝ }
 {
     let mut k: u64 = 1;
     let mut at = 0;

@@ -9,9 +9,10 @@ use lib.Dec.{eqb, leb}
 use lib.ListN.{length, getD, take, drop}
 use lib.Seq.{slice, slice-empty, slice-cons, length-slice, getD-take, getD-drop, take-take, drop-drop, take-nil}
 use borrow.Author.Tests.{lt-leb, le-leb, leb-true, leb-false}
-use Rattle.laws.proofs.Tests.{clash, never}
+use Rattle.laws.proofs.Tests.{clash}
 use Rattle.lines.proofs.LineLaws.{no-second}
-use Rattle.lines.specs.Text.{quoted, content, digit, all-digits, value-from, number}
+use Rattle.reading.specs.Text.{digit}
+use Rattle.lines.specs.Text.{quoted, content, all-digits, value-from, number}
 
 -- a byte of a part
 pub getD-slice : (from to : ℕ) (text : List ℕ) (i : ℕ) → from + i < to → getD (slice from to text) i 0 ≡ getD text (from + i) 0
@@ -152,11 +153,3 @@ most-seven k h =
     let p : (7 - k) + k ≡ 7 = omega arith in
     let e : most ((7 - k) + k) ≡ 9999999 = ap most p in
     omega (arith, e, most-more (7 - k) k)
-
--- a digit's bounds
-pub digit-bounds : (c : ℕ) → digit c ≡ true → (48 ≤ c) × (c ≤ 57)
-digit-bounds c e = let b = both (leb 48 c) (leb c 57) e in (leb-true 48 c (b .0), leb-true c 57 (b .1))
-  where
-    both : (s t : Bool) → (s && t) ≡ true → (s ≡ true) × (t ≡ true)
-    both true t e = (refl, e)
-    both false t e = never cc

@@ -37,7 +37,7 @@ pub record LineEnds (text : List ℕ) (from to : ℕ) : Type 0 where
   pub is-line : line (drop from text) ≡ slice from to text
   pub is-after : after (drop from text) ≡ drop (to + 2) text
 
--- the first comma slice two places, or the second
+-- the first comma from one place up to another, or that other place
 pub record CommaAt (text : List ℕ) (from end at : ℕ) : Type 0 where
   pub order : from ≤ at
   pub inside : at ≤ end

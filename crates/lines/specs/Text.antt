@@ -6,17 +6,19 @@ use mathlib.Core.List.{List, [], _∷_}
 use Prim.Native.Nat.{ℕ, zero, suc, _+_, _*_, _-_}
 use lib.Dec.{eqb, leb}
 use lib.ListN.{length, getD, take, drop}
+use Rattle.reading.specs.Text.{digit}
 
--- CR and LF stand here: a line end
+-- a line end stands at the front of these bytes: CR, and LF after it
 abbrev pub line-end : List ℕ → Bool
 line-end t = eqb (getD t 0 0) 13 && eqb (getD t 1 0) 10
 
--- the bytes up to the first line end, or all
+-- the line at the front of these bytes: those up to the first line end, or all. A line end within quotes ends it too: what it cuts off is
+-- malformed.
 abbrev pub line : List ℕ → List ℕ
 line [] = []
 line (c ∷ t) = cond (line-end (c ∷ t)) [] (c ∷ line t)
 
--- the bytes after it
+-- the bytes after its line end; none where it has none
 abbrev pub after : List ℕ → List ℕ
 after [] = []
 after (c ∷ t) = cond (line-end (c ∷ t)) (drop 1 t) (after t)
@@ -31,11 +33,13 @@ lines-of (suc k) (c ∷ t) = line (c ∷ t) ∷ lines-of k (after (c ∷ t))
 unfoldable pub lines : List ℕ → List (List ℕ)
 lines t = lines-of (length t) t
 
--- the fields of a line, parted by commas
+-- c at the front of the first field
 abbrev pub joined : ℕ → List (List ℕ) → List (List ℕ)
 joined c [] = []
 joined c (f ∷ fs) = (c ∷ f) ∷ fs
 
+-- the fields of a line, parted by commas. A comma within quotes parts it too: a field that holds one is not of digits alone, so its line is
+-- malformed either way.
 abbrev pub fields : List ℕ → List (List ℕ)
 fields [] = [] ∷ []
 fields (c ∷ l) = cond (eqb c 44) ([] ∷ fields l) (joined c (fields l))
@@ -48,9 +52,6 @@ unfoldable pub content : List ℕ → List ℕ
 content f = cond (quoted f) (take (length f - 2) (drop 1 f)) f
 
 -- decimal digits, and the number that they write
-abbrev pub digit : ℕ → Bool
-digit c = leb 48 c && leb c 57
-
 abbrev pub all-digits : List ℕ → Bool
 all-digits [] = true
 all-digits (c ∷ l) = digit c && all-digits l

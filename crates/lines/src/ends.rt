@@ -1,14 +1,14 @@
 // Where a line ends, and where its fields do.
 ghost use mathlib.Core.Path.{_≡_};
 ghost use mathlib.Core.Bool.{false};
-ghost use Prim.Native.Nat.{_≤_};
+ghost use Prim.Native.Nat.{_+_, _≤_, min};
 ghost use lib.ListN.{length, drop};
 ghost use Rattle.lines.specs.Text.{«line-end»};
 ghost use Rattle.lines.specs.Parts.{LineEnds, CommaAt, EndsOf};
 
-const CR: u8 = 13;
+pub const CR: u8 = 13;
 
-const LF: u8 = 10;
+pub const LF: u8 = 10;
 
 pub const COMMA: u8 = 44;
 
@@ -36,6 +36,17 @@ pub fn line_end(text: &[u8], from: usize) -> usize
         i += 1;
     }
     i
+}
+
+// The place behind a line that ends at `end`: behind its line end, or the end of the text.
+pub fn behind(end: usize, text: usize) -> usize
+    requires { ⌜ end ≤ text ⌝ }
+    ensures { λ r. ⌜ r ≡ min (end + 2) text ⌝ }
+{
+    if text - end < 2 {
+        return text;
+    }
+    end + 2
 }
 
 // The first comma from `from` on, or `end`.

@@ -1,13 +1,17 @@
 // What a field holds: its content, and the number that this writes.
+use reading::is_digit;
+use reading::value;
 ghost use mathlib.Core.Path.{_≡_};
-ghost use mathlib.Core.Bool.{true};
-ghost use Prim.Native.Nat.{_-_, _≤_, _<_};
+ghost use Prim.Native.Nat.{_≤_};
 ghost use lib.ListN.{length};
 ghost use lib.Seq.{slice};
-ghost use Rattle.lines.specs.Text.{content, number, quoted, digit};
+ghost use Rattle.lines.specs.Text.{content, number, quoted};
 ghost use Rattle.lines.specs.Parts.{«number-said»};
 
 const QUOTE: u8 = 34;
+
+// "one to seven decimal digits"
+pub const MOST_DIGITS: usize = 7;
 
 pub enum Number {
     Of(u64),
@@ -44,20 +48,6 @@ pub fn inside(text: &[u8], from: usize, to: usize) -> Span
     Span { from, to }
 }
 
-pub fn is_digit(c: u8) -> bool
-    ensures { λ r. ⌜ r ≡ digit c ⌝ }
-{
-    (48 <= c) & (c <= 57)
-}
-
-// What a digit stands for.
-pub fn value(c: u8) -> u64
-    requires { ⌜ digit c ≡ true ⌝ }
-    ensures { λ r. ⌜ (r ≡ c - 48) × (r < 10) ⌝ }
-{
-    (c - 48) as u64
-}
-
 // The number that the content of a field writes, if it is one to seven digits.
 pub fn number_of(text: &[u8], from: usize, to: usize) -> Number
     requires { ⌜ (from ≤ to) × (to ≤ length (now text)) ⌝ }
@@ -66,7 +56,7 @@ pub fn number_of(text: &[u8], from: usize, to: usize) -> Number
     if to == from {
         return Number::None;
     }
-    if 7 < to - from {
+    if MOST_DIGITS < to - from {
         return Number::None;
     }
     let mut v = 0;

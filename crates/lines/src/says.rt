@@ -35,7 +35,7 @@ fn field(text: &[u8], from: usize, to: usize) -> Number
 }
 
 // The previous setting: an empty field at scan 0 and only there.
-fn before(first: Number, text: &[u8], from: usize, to: usize) -> Number
+fn previous(first: Number, text: &[u8], from: usize, to: usize) -> Number
     requires { ⌜ (from ≤ to) × (to ≤ length (now text)) ⌝ }
     ensures { λ r. ⌜ number-said r ≡ previous-after (number-said first) (content (slice from to (now (text .entry)))) ⌝ }
 {
@@ -90,7 +90,7 @@ pub fn says(text: &[u8], from: usize, end: usize) -> Line
         return Line::Malformed;
     }
     let first = field(text, from, e.first);
-    let second = before(first, text, e.first + 1, e.second);
+    let second = previous(first, text, e.first + 1, e.second);
     let third = field(text, e.second + 1, e.third);
     let fourth = field(text, e.third + 1, e.fourth);
     let fifth = field(text, e.fourth + 1, end);

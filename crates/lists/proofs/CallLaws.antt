@@ -10,17 +10,15 @@ use Rattle.tables.specs.declared.refusal.Refusal.{Refusal}
 use Rattle.tables.specs.Tables.{cells}
 use Rattle.tables.proofs.RefusalLaws.{never-zero}
 use Rattle.checks.specs.Checks.{or-answer}
-use Rattle.imports.specs.Import.{rates-after, distortions-after, import-of}
-use Rattle.imports.proofs.ImportLaws.{Admitted, import-passed, import-passes}
-use Rattle.exports.specs.Export.{export-text, export-refusal, export-answered, text-after, export-of}
-use Rattle.exports.specs.Parts.{Exportable}
+use Rattle.imports.specs.Import.{rates-after, distortions-after, scratch-after, import-of}
+use Rattle.imports.proofs.ImportLaws.{ImportAdmitted, import-admits, import-passed, import-passes}
+use Rattle.exports.specs.Export.{export-text, export-refusal, export-answered, text-after, export-of, Exportable}
 use Rattle.exports.proofs.ExportLaws.{room-alone, export-passed}
 use Rattle.lists.specs.Shown.{zeroed}
 use Rattle.lists.specs.Again.{imported-rates, imported-distortions}
 use Rattle.lists.specs.Calls.{exported-text, rates-left, distortions-left, Roomy, Returned, Stays}
-use Rattle.lists.proofs.ExportLaws.{export-import}
+use Rattle.lists.proofs.ExportLaws.{zeroed-same, export-lines}
 use Rattle.lists.proofs.ImportedLaws.{imported-legal}
-use Rattle.lists.proofs.AgainLaws.{zeroed-same}
 
 -- an answer is no refusal
 answered-none : (o : Option Refusal) (v : List ℕ) → or-answer o v .number ≡ 0 → o ≡ none
@@ -40,11 +38,11 @@ module _ (N Q : ℕ) (rates distortions T : List ℕ) (e : export-of N Q rates d
       ap (λ (o : Option Refusal). take (getD (or-answer o (length w ∷ []) .values) 0 0) (text-after o N Q rates distortions T)) passed
       ∙ take-at w (drop (length w) T) (length w) refl
 
-  pub export-then-import : (R D S : List ℕ) → Roomy N Q R D S → Returned N Q rates distortions (exported-text N Q rates distortions T) R D S
-  export-then-import R D S roomy =
+  pub export-import : (R D S : List ℕ) → Roomy N Q R D S → Returned N Q rates distortions (exported-text N Q rates distortions T) R D S
+  export-import R D S roomy =
       let x = export-passed N Q rates distortions T passed in
-      let again = export-import x in
-      let a : Admitted N Q (length R) (length D) (length S) = record {
+      let again = export-lines x in
+      let a : ImportAdmitted N Q (length R) (length D) (length S) = record {
         some-scans = x .some-scans;
         scans = x .scans;
         some-settings = x .some-settings;
@@ -59,6 +57,7 @@ module _ (N Q : ℕ) (rates distortions T : List ℕ) (e : export-of N Q rates d
         accepted = f;
         rates-back = ap (λ (o : Option Refusal). rates-after o N Q w R) f ∙ again .rates-again R;
         distortions-back = ap (λ (o : Option Refusal). distortions-after o N Q w D) f ∙ again .distortions-again D;
+        scratch-zero = ap (λ (o : Option Refusal). scratch-after o N Q S) (import-admits a);
       } in
       rw (← exported-is) at r
 
@@ -68,7 +67,7 @@ stays N Q rates distortions x z = record {
   legal = x .legal;
   room-alone = room-alone x;
   again = λ T R D S e roomy.
-      let b = export-then-import N Q rates distortions T e R D S roomy in (
+      let b = export-import N Q rates distortions T e R D S roomy in (
         b .accepted,
         (
           ap (take (cells N Q)) (b .rates-back) ∙ take-at rates (drop (cells N Q) R) (cells N Q) (x .rates-long),
@@ -78,8 +77,8 @@ stays N Q rates distortions x z = record {
 }
 
 -- what was imported, from any text, stays as it is
-pub import-then-export : (N Q : ℕ) (text R D S : List ℕ) → import-of N Q text R D S .ends ≡ none → Stays N Q (rates-left N Q text R D S) (distortions-left N Q text R D S)
-import-then-export N Q text R D S e =
+pub import-export-import : (N Q : ℕ) (text R D S : List ℕ) → import-of N Q text R D S .ends ≡ none → Stays N Q (rates-left N Q text R D S) (distortions-left N Q text R D S)
+import-export-import N Q text R D S e =
     let p = import-passed N Q text R D S e in
     let a = p .0 in
     let legal = imported-legal N Q text R D (p .1) in

@@ -8,10 +8,11 @@ use native.Mathlib.Omega.{arith}
 use lib.Dec.{eqb, ltb, leb}
 use lib.ListN.{length, getD, take, drop, length-append}
 use borrow.Author.Tests.{ltb-true, ltb-false, le-leb, ne-eqb}
-use Rattle.laws.proofs.Tests.{never}
-use Rattle.lines.specs.Text.{quoted, content, digit, all-digits, value-from, number}
+use Rattle.laws.proofs.Tests.{both}
+use Rattle.reading.specs.Text.{digit}
+use Rattle.lines.specs.Text.{quoted, content, all-digits, value-from, number}
 use Rattle.lines.proofs.LineLaws.{no-second}
-use Rattle.lines.proofs.ContentLaws.{digit-bounds}
+use Rattle.reading.proofs.WordLaws.{digit-bounds}
 use Rattle.exports.specs.Export.{decimal-of, decimal}
 
 -- ---- digits
@@ -75,26 +76,12 @@ written (suc k) x n h g = of n (ltb x 10) refl g (written k (x / 10))
 
 -- ---- a list of digits as a field
 
--- every byte of it is a digit, so none is a comma, a quote or part of a line end
-abbrev pub Plain : List ℕ → Type 0
-Plain l = (i : ℕ) → i < length l → (48 ≤ getD l i 0) × (getD l i 0 ≤ 57)
-
--- both of two tests hold
-pub both : (s t : Bool) → (s && t) ≡ true → (s ≡ true) × (t ≡ true)
-both true t e = (refl, e)
-both false t e = never cc
-
-pub digits-plain : (l : List ℕ) → all-digits l ≡ true → Plain l
-digits-plain [] e i h = absurd (omega arith)
-digits-plain (c ∷ l) e zero h = digit-bounds c (both (digit c) (all-digits l) e .0)
-digits-plain (c ∷ l) e (suc i) h = digits-plain l (both (digit c) (all-digits l) e .1) i (omega arith)
-
 -- it has no quotes
 pub plain-content : (l : List ℕ) → all-digits l ≡ true → content l ≡ l
 unfolding content
 plain-content [] e = refl
 plain-content (c ∷ l) e =
-    let d = digits-plain (c ∷ l) e 0 (omega arith) in
+    let d = digit-bounds c (both (digit c) (all-digits l) e .0) in
     let q : quoted (c ∷ l) ≡ false = no-second (leb 2 (length (c ∷ l))) _
     (ap (λ (b : Bool). b && eqb (getD (c ∷ l) (length (c ∷ l) - 1) 0) 34) (ne-eqb c 34 (λ z. omega (arith, d .0, z)))) in
     ap (λ (b : Bool). cond b (take (length (c ∷ l) - 2) (drop 1 (c ∷ l))) (c ∷ l)) q
@@ -119,9 +106,3 @@ number-decimal x h = number-of (decimal-written x h)
 
 pub content-decimal : (x : ℕ) → x < 10000000 → content (decimal x) ≡ decimal x
 content-decimal x h = plain-content (decimal x) (decimal-written x h .digits)
-
-pub decimal-plain : (x : ℕ) → x < 10000000 → Plain (decimal x)
-decimal-plain x h = digits-plain (decimal x) (decimal-written x h .digits)
-
-pub decimal-length : (x : ℕ) → x < 10000000 → (1 ≤ length (decimal x)) × (length (decimal x) ≤ 7)
-decimal-length x h = let w = decimal-written x h in (w .some-digit, w .most)

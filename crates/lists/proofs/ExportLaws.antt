@@ -9,7 +9,7 @@ use native.Mathlib.Decide.{ℕ-discrete}
 use native.Mathlib.Omega.{arith}
 use lib.Dec.{eqb, ltb, leb}
 use lib.ListN.{length, getD, set, drop, replicate, length-append, drop-of-length-le}
-use lib.Seq.{drop-cons, append-snoc, set-at, getD-drop}
+use lib.Seq.{drop-cons, append-snoc, set-at, getD-drop, ext-getD}
 use borrow.Author.Tests.{eq-eqb, ne-eqb, lt-leb, le-ltb}
 use Rattle.tables.specs.declared.refusal.Refusal.the-variants as refusal
 use Rattle.tables.specs.Limits.{most-cell, forbidden}
@@ -18,15 +18,13 @@ use Rattle.checks.specs.Checks.{when, or-else, first-refusal}
 use Rattle.checks.proofs.CheckLaws.{else-none}
 use Rattle.lines.specs.declared.says.Entry.{Entry}
 use Rattle.lines.specs.Text.{lines}
-use Rattle.lines.specs.Said.{says-of}
-use Rattle.imports.specs.Import.{cell-of, out-of-range, member, fault, seen-with, first-fault, with-rate, with-distortion, rates-from, distortions-from, filled}
+use Rattle.imports.specs.Import.{cell-of, out-of-range, member, fault, seen-with, first-fault, filled, with-said, rate-of, distortion-of, table-from}
 use Rattle.exports.specs.declared.place.Place.{Place}
-use Rattle.exports.specs.Export.{export-line, cell-line, next-place, first-place, export-from, export-text}
-use Rattle.exports.specs.Parts.{Exportable}
-use Rattle.lists.specs.Shown.{zeroed, line-of, said-at}
+use Rattle.exports.specs.Export.{line-text, export-line, cell-line, place-at, export-from, export-text, Exportable, PlaceOf}
+use Rattle.exports.proofs.PlaceLaws.{in-cell-order, scan-of}
+use Rattle.lists.specs.Shown.{zeroed, said-at}
 use Rattle.lists.specs.Again.{ImportedAgain}
 use Rattle.lists.proofs.LineOfLaws.{Sized, lines-export, line-says}
-use Rattle.lists.proofs.PlaceLaws.{PlaceOf, place-first, place-next}
 
 -- ---- the distortions that are shown
 
@@ -43,32 +41,17 @@ getD-zeroed (r ∷ rates) distortions (suc c) h =
     getD-zeroed rates (drop 1 distortions) c (omega arith)
     ∙ ap (λ (x : ℕ). cond (eqb (getD rates c 0) forbidden) 0 x) (getD-drop 1 distortions c 0 ∙ ap (λ (k : ℕ). getD distortions k 0) e)
 
--- ---- a table with one number of what each line says
-
-abbrev with-said : (Entry → ℕ) → ℕ → List ℕ → Option Entry → List ℕ
-with-said f Q t none = t
-with-said f Q t (some e) = set t (cell-of Q e) (f e)
-
-abbrev from-lines : (Entry → ℕ) → ℕ → List ℕ → List (List ℕ) → List ℕ
-from-lines f Q t [] = t
-from-lines f Q t (l ∷ ls) = from-lines f Q (with-said f Q t (says-of l)) ls
-
-rates-said : (Q : ℕ) (t : List ℕ) (ls : List (List ℕ)) → rates-from Q t ls ≡ from-lines (λ e. e .rate) Q t ls
-rates-said Q t [] = refl
-rates-said Q t (l ∷ ls) = rates-said Q (with-rate Q t (says-of l)) ls ∙ ap (λ (u : List ℕ). from-lines (λ e. e .rate) Q u ls) (of (says-of l))
+-- distortions that are 0 beside every forbidden rate are shown as they are
+pub zeroed-same : (rates distortions : List ℕ) → length distortions ≡ length rates →
+    ((c : ℕ) → c < length rates → getD rates c 0 ≡ forbidden → getD distortions c 0 ≡ 0) → zeroed rates distortions ≡ distortions
+zeroed-same rates distortions e z =
+    let l = length-zeroed rates distortions in
+    ext-getD 0 (zeroed rates distortions) distortions (l ∙ sym e)
+    (λ c h. let g : c < length rates = omega (arith, h, l) in getD-zeroed rates distortions c g ∙ of c g (ℕ-discrete (getD rates c 0) forbidden))
   where
-    of : (o : Option Entry) → with-rate Q t o ≡ with-said (λ e. e .rate) Q t o
-    of none = refl
-    of (some e) = refl
-
-distortions-said : (Q : ℕ) (t : List ℕ) (ls : List (List ℕ)) → distortions-from Q t ls ≡ from-lines (λ e. e .distortion) Q t ls
-distortions-said Q t [] = refl
-distortions-said Q t (l ∷ ls) =
-    distortions-said Q (with-distortion Q t (says-of l)) ls ∙ ap (λ (u : List ℕ). from-lines (λ e. e .distortion) Q u ls) (of (says-of l))
-  where
-    of : (o : Option Entry) → with-distortion Q t o ≡ with-said (λ e. e .distortion) Q t o
-    of none = refl
-    of (some e) = refl
+    of : (c : ℕ) → c < length rates → Dec (getD rates c 0 ≡ forbidden) → cond (eqb (getD rates c 0) forbidden) 0 (getD distortions c 0) ≡ getD distortions c 0
+    of c g (yes y) = ap (λ (b : Bool). cond b 0 (getD distortions c 0)) (eq-eqb (getD rates c 0) forbidden y) ∙ sym (z c g y)
+    of c g (no y) = ap (λ (b : Bool). cond b 0 (getD distortions c 0)) (ne-eqb (getD rates c 0) forbidden y)
 
 -- ---- the lines of an export
 
@@ -79,7 +62,7 @@ no-lines = refl
 lines-forbidden : (p : Place) (r d : ℕ) (rest : List ℕ) → r ≡ forbidden → lines (cell-line p r d ++ rest) ≡ lines rest
 lines-forbidden p r d rest e = ap (λ (b : Bool). lines (cond b [] (export-line p r d) ++ rest)) (eq-eqb r forbidden e)
 
-lines-shown : (p : Place) (r d : ℕ) (rest : List ℕ) → r ≢ forbidden → Sized p r d → lines (cell-line p r d ++ rest) ≡ line-of p r d ∷ lines rest
+lines-shown : (p : Place) (r d : ℕ) (rest : List ℕ) → r ≢ forbidden → Sized p r d → lines (cell-line p r d ++ rest) ≡ line-text p r d ∷ lines rest
 lines-shown p r d rest e s = ap (λ (b : Bool). lines (cond b [] (export-line p r d) ++ rest)) (ne-eqb r forbidden e) ∙ lines-export s rest
 
 no-or : (a b : Bool) → a ≡ false → b ≡ false → (a || b) ≡ false
@@ -101,15 +84,15 @@ no-fault-of N Q k seen e p q =
 -- a line that is exported
 record Shown (N Q c : ℕ) (p : Place) (r d : ℕ) : Type 0 where
   sized : Sized p r d
-  is-cell : cell-of Q (said-at p r d) ≡ c
+  is : cell-of Q (said-at p r d) ≡ c
   in-range : out-of-range N Q (said-at p r d) ≡ false
 
-same-before : {N Q c : ℕ} {p : Place} → PlaceOf N Q c p → cond (eqb (p .scan) 0) 0 (p .before) ≡ p .before
+same-before : {Q c : ℕ} {p : Place} → PlaceOf Q c p → cond (eqb (p .scan) 0) 0 (p .previous) ≡ p .previous
 same-before {p = p} o = of (ℕ-discrete (p .scan) 0)
   where
-    of : Dec (p .scan ≡ 0) → cond (eqb (p .scan) 0) 0 (p .before) ≡ p .before
-    of (yes z) = ap (λ (b : Bool). cond b 0 (p .before)) (eq-eqb (p .scan) 0 z) ∙ sym (o .none-before z)
-    of (no z) = ap (λ (b : Bool). cond b 0 (p .before)) (ne-eqb (p .scan) 0 z)
+    of : Dec (p .scan ≡ 0) → cond (eqb (p .scan) 0) 0 (p .previous) ≡ p .previous
+    of (yes z) = ap (λ (b : Bool). cond b 0 (p .previous)) (eq-eqb (p .scan) 0 z) ∙ sym (o .none-before z)
+    of (no z) = ap (λ (b : Bool). cond b 0 (p .previous)) (ne-eqb (p .scan) 0 z)
 
 range-of : (N Q : ℕ) (e : Entry) → e .scan < N → e .previous < Q → e .setting < Q → e .rate ≤ most-cell → e .distortion ≤ most-cell → out-of-range N Q e ≡ false
 unfolding out-of-range
@@ -118,99 +101,105 @@ range-of N Q e a b c d f =
     (no-or (ltb most-cell (e .rate)) (ltb most-cell (e .distortion)) (le-ltb _ _ d) (le-ltb _ _ f))))
 
 module _ {N Q : ℕ} {rates distortions : List ℕ} (x : Exportable N Q rates distortions) where
-  shown : {c : ℕ} {p : Place} → PlaceOf N Q c p → c < cells N Q → getD rates c 0 ≢ forbidden → Shown N Q c p (getD rates c 0) (getD distortions c 0)
+  shown : {c : ℕ} {p : Place} → PlaceOf Q c p → c < cells N Q → getD rates c 0 ≢ forbidden → Shown N Q c p (getD rates c 0) (getD distortions c 0)
   shown {c} {p} o h n =
       let l = x .legal c (omega (arith, h, x .rates-long)) in
       let r : getD rates c 0 ≤ most-cell = ⊎-elim (λ a. a) (λ e. absurd (n e)) (l .0) in
       let d : getD distortions c 0 ≤ most-cell = ⊎-elim (λ a. a) (λ e. absurd (n e)) (l .1) in
       let b = same-before o in
+      let i = scan-of (x .some-scans) o h in
       record {
         sized = record {
-          scan = omega (arith, o .scan, x .scans);
-          before = omega (arith, o .before, x .settings);
+          scan = omega (arith, i, x .scans);
+          previous = omega (arith, o .previous, x .settings);
           setting = omega (arith, o .setting, x .settings);
           rate-small = omega (arith, r);
           distortion-small = omega (arith, d);
         };
-        is-cell = ap (λ (k : ℕ). cell Q (p .scan) k (p .setting)) b ∙ o .is-cell;
-        in-range = range-of N Q (said-at p (getD rates c 0) (getD distortions c 0)) (o .scan) (omega (arith, b, o .before)) (o .setting) r d;
+        is = ap (λ (k : ℕ). cell Q (p .scan) k (p .setting)) b ∙ o .is;
+        in-range = range-of N Q (said-at p (getD rates c 0) (getD distortions c 0)) i (omega (arith, b, o .previous)) (o .setting) r d;
       }
 
+  -- the place of cell c
+  abbrev here : ℕ → Place
+  here c = place-at Q c
+
+  of-cell : (c : ℕ) → PlaceOf Q c (here c)
+  of-cell c = in-cell-order Q (x .some-settings) c
+
   -- what stands behind cell c
-  abbrev behind : (n c : ℕ) → Place → List ℕ
-  behind n c p = export-from Q rates distortions n (suc c) (next-place Q p)
+  abbrev behind : (n c : ℕ) → List ℕ
+  behind n c = export-from Q rates distortions n (suc c)
 
   -- no line of n cells from cell c on has a fault
-  none-faulty : (n c k : ℕ) (seen : List ℕ) (p : Place) → (c < cells N Q → PlaceOf N Q c p) → c + n ≡ cells N Q → Earlier c seen →
-      first-fault N Q k seen (lines (export-from Q rates distortions n c p)) ≡ none
-  none-faulty zero c k seen p o e early = ap (first-fault N Q k seen) no-lines
-  none-faulty (suc n) c k seen p o e early =
+  none-faulty : (n c k : ℕ) (seen : List ℕ) → c + n ≡ cells N Q → Earlier c seen →
+      first-fault N Q k seen (lines (export-from Q rates distortions n c)) ≡ none
+  none-faulty zero c k seen e early = ap (first-fault N Q k seen) no-lines
+  none-faulty (suc n) c k seen e early =
       of (ℕ-discrete (getD rates c 0) forbidden)
-      (λ k′ seen′ early′. none-faulty n (suc c) k′ seen′ (next-place Q p) (λ h. place-next N Q c h (o (omega arith))) (omega arith) early′)
+      (λ k′ seen′ early′. none-faulty n (suc c) k′ seen′ (omega arith) early′)
     where
-      of : Dec (getD rates c 0 ≡ forbidden) → ((k′ : ℕ) (seen′ : List ℕ) → Earlier (suc c) seen′ → first-fault N Q k′ seen′ (lines (behind n c p)) ≡ none) →
-          first-fault N Q k seen (lines (cell-line p (getD rates c 0) (getD distortions c 0) ++ (behind n c p))) ≡ none
+      of : Dec (getD rates c 0 ≡ forbidden) → ((k′ : ℕ) (seen′ : List ℕ) → Earlier (suc c) seen′ → first-fault N Q k′ seen′ (lines (behind n c)) ≡ none) →
+          first-fault N Q k seen (lines (cell-line (here c) (getD rates c 0) (getD distortions c 0) ++ (behind n c))) ≡ none
       of (yes z) later =
-          ap (first-fault N Q k seen) (lines-forbidden p (getD rates c 0) (getD distortions c 0) (behind n c p) z) ∙ later k seen (λ j h. early j (omega arith))
+          ap (first-fault N Q k seen) (lines-forbidden (here c) (getD rates c 0) (getD distortions c 0) (behind n c) z) ∙ later k seen (λ j h. early j (omega arith))
       of (no z) later =
-          let s = shown (o (omega arith)) (omega arith) z in
-          let entry = said-at p (getD rates c 0) (getD distortions c 0) in
-          let m : member (cell-of Q entry) seen ≡ false = early (cell-of Q entry) (omega (arith, s .is-cell)) in
-          let f : first-fault N Q (suc k) (cell-of Q entry ∷ seen) (lines (behind n c p)) ≡ none =
-          ap (λ (j : ℕ). first-fault N Q (suc k) (j ∷ seen) (lines (behind n c p))) (s .is-cell) ∙ later (suc k) (c ∷ seen) (earlier-more c seen early) in
-          ap (first-fault N Q k seen) (lines-shown p (getD rates c 0) (getD distortions c 0) (behind n c p) z (s .sized))
-          ∙ ap (λ (y : Option Entry). or-else (fault N Q k seen y) (first-fault N Q (suc k) (seen-with Q y seen) (lines (behind n c p)))) (line-says (s .sized))
-          ∙ else-none (fault N Q k seen (some entry)) (first-fault N Q (suc k) (cell-of Q entry ∷ seen) (lines (behind n c p)))
+          let s = shown (of-cell c) (omega arith) z in
+          let entry = said-at (here c) (getD rates c 0) (getD distortions c 0) in
+          let m : member (cell-of Q entry) seen ≡ false = early (cell-of Q entry) (omega (arith, s .is)) in
+          let f : first-fault N Q (suc k) (cell-of Q entry ∷ seen) (lines (behind n c)) ≡ none =
+          ap (λ (j : ℕ). first-fault N Q (suc k) (j ∷ seen) (lines (behind n c))) (s .is) ∙ later (suc k) (c ∷ seen) (earlier-more c seen early) in
+          ap (first-fault N Q k seen) (lines-shown (here c) (getD rates c 0) (getD distortions c 0) (behind n c) z (s .sized))
+          ∙ ap (λ (y : Option Entry). or-else (fault N Q k seen y) (first-fault N Q (suc k) (seen-with Q y seen) (lines (behind n c)))) (line-says (s .sized))
+          ∙ else-none (fault N Q k seen (some entry)) (first-fault N Q (suc k) (cell-of Q entry ∷ seen) (lines (behind n c)))
           (no-fault-of N Q k seen entry (s .in-range) m) f
 
   -- what the lines of n cells from cell c on write: a table's own cells, and where there is no line what stood there before
   module _ (f : Entry → ℕ) (fill : ℕ) (X : List ℕ) (long : length X ≡ cells N Q)
       (not-shown : (c : ℕ) → c < cells N Q → getD rates c 0 ≡ forbidden → getD X c 0 ≡ fill)
       (is-shown : (c : ℕ) (p : Place) → c < cells N Q → getD rates c 0 ≢ forbidden → f (said-at p (getD rates c 0) (getD distortions c 0)) ≡ getD X c 0) where
-    written : (n c : ℕ) (p : Place) (A R : List ℕ) → (c < cells N Q → PlaceOf N Q c p) → c + n ≡ cells N Q → length A ≡ c →
-        from-lines f Q (A ++ (replicate n fill ++ R)) (lines (export-from Q rates distortions n c p)) ≡ A ++ (drop c X ++ R)
-    written zero c p A R o e a =
-        ap (from-lines f Q (A ++ R)) no-lines ∙ ap (λ (l : List ℕ). A ++ (l ++ R)) (sym (drop-of-length-le X {i = c} (omega (arith, long))))
-    written (suc n) c p A R o e a =
+    written : (n c : ℕ) (A R : List ℕ) → c + n ≡ cells N Q → length A ≡ c →
+        table-from f Q (A ++ (replicate n fill ++ R)) (lines (export-from Q rates distortions n c)) ≡ A ++ (drop c X ++ R)
+    written zero c A R e a =
+        ap (table-from f Q (A ++ R)) no-lines ∙ ap (λ (l : List ℕ). A ++ (l ++ R)) (sym (drop-of-length-le X {i = c} (omega (arith, long))))
+    written (suc n) c A R e a =
         of (ℕ-discrete (getD rates c 0) forbidden)
-        ∙ ap (λ (t : List ℕ). from-lines f Q t (lines (behind n c p))) (sym (append-snoc A (getD X c 0) (replicate n fill ++ R)))
-        ∙ written n (suc c) (next-place Q p) (A ++ (getD X c 0 ∷ [])) R (λ h. place-next N Q c h (o (omega arith))) (omega arith)
+        ∙ ap (λ (t : List ℕ). table-from f Q t (lines (behind n c))) (sym (append-snoc A (getD X c 0) (replicate n fill ++ R)))
+        ∙ written n (suc c) (A ++ (getD X c 0 ∷ [])) R (omega arith)
         (omega (arith, a, length-append A (getD X c 0 ∷ [])))
         ∙ append-snoc A (getD X c 0) (drop (suc c) X ++ R)
         ∙ ap (λ (l : List ℕ). A ++ (l ++ R)) (sym (drop-cons X c 0 (omega (arith, long))))
       where
         of : Dec (getD rates c 0 ≡ forbidden) →
-            from-lines f Q (A ++ fill ∷ (replicate n fill ++ R)) (lines (cell-line p (getD rates c 0) (getD distortions c 0) ++ (behind n c p))) ≡ from-lines f Q (A ++ getD X c 0 ∷ (replicate n fill ++ R)) (lines (behind n c p))
+            table-from f Q (A ++ fill ∷ (replicate n fill ++ R)) (lines (cell-line (here c) (getD rates c 0) (getD distortions c 0) ++ (behind n c))) ≡ table-from f Q (A ++ getD X c 0 ∷ (replicate n fill ++ R)) (lines (behind n c))
         of (yes z) =
-            ap (from-lines f Q (A ++ fill ∷ (replicate n fill ++ R))) (lines-forbidden p (getD rates c 0) (getD distortions c 0) (behind n c p) z)
-            ∙ ap (λ (v : ℕ). from-lines f Q (A ++ v ∷ (replicate n fill ++ R)) (lines (behind n c p))) (sym (not-shown c (omega arith) z))
+            ap (table-from f Q (A ++ fill ∷ (replicate n fill ++ R))) (lines-forbidden (here c) (getD rates c 0) (getD distortions c 0) (behind n c) z)
+            ∙ ap (λ (v : ℕ). table-from f Q (A ++ v ∷ (replicate n fill ++ R)) (lines (behind n c))) (sym (not-shown c (omega arith) z))
         of (no z) =
-            let s = shown (o (omega arith)) (omega arith) z in
-            let entry = said-at p (getD rates c 0) (getD distortions c 0) in
+            let s = shown (of-cell c) (omega arith) z in
+            let entry = said-at (here c) (getD rates c 0) (getD distortions c 0) in
             let put : set (A ++ fill ∷ (replicate n fill ++ R)) (cell-of Q entry) (f entry) ≡ A ++ getD X c 0 ∷ (replicate n fill ++ R) =
-            ap (λ (j : ℕ). set (A ++ fill ∷ (replicate n fill ++ R)) j (f entry)) (s .is-cell) ∙ set-at A fill (replicate n fill ++ R) (f entry) c a
-            ∙ ap (λ (v : ℕ). A ++ v ∷ (replicate n fill ++ R)) (is-shown c p (omega arith) z) in
-            ap (from-lines f Q (A ++ fill ∷ (replicate n fill ++ R))) (lines-shown p (getD rates c 0) (getD distortions c 0) (behind n c p) z (s .sized))
-            ∙ ap (λ (y : Option Entry). from-lines f Q (with-said f Q (A ++ fill ∷ (replicate n fill ++ R)) y) (lines (behind n c p))) (line-says (s .sized))
-            ∙ ap (λ (t : List ℕ). from-lines f Q t (lines (behind n c p))) put
+            ap (λ (j : ℕ). set (A ++ fill ∷ (replicate n fill ++ R)) j (f entry)) (s .is) ∙ set-at A fill (replicate n fill ++ R) (f entry) c a
+            ∙ ap (λ (v : ℕ). A ++ v ∷ (replicate n fill ++ R)) (is-shown c (here c) (omega arith) z) in
+            ap (table-from f Q (A ++ fill ∷ (replicate n fill ++ R))) (lines-shown (here c) (getD rates c 0) (getD distortions c 0) (behind n c) z (s .sized))
+            ∙ ap (λ (y : Option Entry). table-from f Q (with-said f Q (A ++ fill ∷ (replicate n fill ++ R)) y) (lines (behind n c))) (line-says (s .sized))
+            ∙ ap (λ (t : List ℕ). table-from f Q t (lines (behind n c))) put
 
-    all-written : (R : List ℕ) → from-lines f Q (filled (cells N Q) fill R) (lines (export-text N Q rates distortions)) ≡ X ++ drop (cells N Q) R
+    all-written : (R : List ℕ) → table-from f Q (filled (cells N Q) fill R) (lines (export-text N Q rates distortions)) ≡ X ++ drop (cells N Q) R
     unfolding export-text
     all-written R =
-        written (cells N Q) 0 first-place [] (drop (cells N Q) R) (λ h. place-first (x .some-scans) (x .some-settings)) (omega arith) refl
+        written (cells N Q) 0 [] (drop (cells N Q) R) (omega arith) refl
 
   export-faultless : first-fault N Q 1 [] (lines (export-text N Q rates distortions)) ≡ none
   unfolding export-text
-  export-faultless = none-faulty (cells N Q) 0 1 [] first-place (λ h. place-first (x .some-scans) (x .some-settings)) (omega arith) (λ j h. refl)
+  export-faultless = none-faulty (cells N Q) 0 1 [] (omega arith) (λ j h. refl)
 
   -- what is exported is imported again
-  pub export-import : ImportedAgain N Q rates distortions
-  export-import = record {
+  pub export-lines : ImportedAgain N Q rates distortions
+  export-lines = record {
     faultless = export-faultless;
-    rates-again = λ R. rates-said Q (filled (cells N Q) forbidden R) (lines (export-text N Q rates distortions))
-        ∙ all-written (λ e. e .rate) forbidden rates (x .rates-long) (λ c h z. z) (λ c p h z. refl) R;
-    distortions-again = λ D. distortions-said Q (filled (cells N Q) 0 D) (lines (export-text N Q rates distortions))
-        ∙ all-written (λ e. e .distortion) 0 (zeroed rates distortions) (length-zeroed rates distortions ∙ x .rates-long)
+    rates-again = λ R. all-written rate-of forbidden rates (x .rates-long) (λ c h z. z) (λ c p h z. refl) R;
+    distortions-again = λ D. all-written distortion-of 0 (zeroed rates distortions) (length-zeroed rates distortions ∙ x .rates-long)
         (λ c h z. getD-zeroed rates distortions c (omega (arith, h, x .rates-long))
         ∙ ap (λ (b : Bool). cond b 0 (getD distortions c 0)) (eq-eqb (getD rates c 0) forbidden z))
         (λ c p h z. sym (getD-zeroed rates distortions c (omega (arith, h, x .rates-long))

@@ -6,8 +6,8 @@ use mathlib.Core.List.{List, [], _∷_, _++_}
 use Prim.Native.Nat.{ℕ, suc, _≤_, _<_}
 use native.Mathlib.Decide.{ℕ-discrete}
 use native.Mathlib.Omega.{arith}
-use lib.ListN.{length, getD, set, take, drop, replicate, length-set, length-append, length-replicate, take-append-drop, getD-replicate, List·getD-append}
-use lib.Seq.{length-take-le, getD-take, getD-set-same, getD-set-other, drop-set-lt, drop-at}
+use lib.ListN.{length, getD, set, take, drop, length-set, take-append-drop}
+use lib.Seq.{length-take-le, getD-take, getD-set-same, getD-set-other, drop-set-lt}
 use Rattle.laws.proofs.Tests.{never}
 use Rattle.tables.specs.Limits.{most-cell, forbidden}
 use Rattle.tables.specs.Tables.{cells}
@@ -16,9 +16,10 @@ use Rattle.checks.proofs.CheckLaws.{none-else}
 use Rattle.lines.specs.declared.says.Entry.{Entry}
 use Rattle.lines.specs.Text.{lines}
 use Rattle.lines.specs.Said.{says-of}
-use Rattle.imports.specs.Import.{cell-of, fault, seen-with, first-fault, with-rate, with-distortion, rates-from, distortions-from, filled}
+use Rattle.imports.specs.Import.{cell-of, fault, seen-with, first-fault, filled, with-said, rate-of, distortion-of, table-from}
 use Rattle.imports.proofs.JudgeLaws.{InRange, cell-there}
 use Rattle.imports.proofs.WriteLaws.{good-in-range}
+use Rattle.imports.proofs.ImportLaws.{fill-at, fill-room, fill-behind}
 use Rattle.lists.specs.Again.{imported-rates, imported-distortions, ImportedLegal}
 
 -- a cell that was named by a line, or by none
@@ -39,7 +40,7 @@ record Wrote (k : ℕ) (rates distortions rates′ distortions′ : List ℕ) : 
 
 -- one line without a fault
 one-line : (N Q k : ℕ) (seen rates distortions : List ℕ) (o : Option Entry) → fault N Q k seen o ≡ none → Sound (cells N Q) rates distortions →
-    Wrote (cells N Q) rates distortions (with-rate Q rates o) (with-distortion Q distortions o)
+    Wrote (cells N Q) rates distortions (with-said rate-of Q rates o) (with-said distortion-of Q distortions o)
 one-line N Q k seen rates distortions none h s = never cc
 one-line N Q k seen rates distortions (some e) h s =
     let r : InRange N Q e = good-in-range {N = N} {Q = Q} k seen (some e) refl h in
@@ -70,12 +71,12 @@ one-line N Q k seen rates distortions (some e) h s =
 
 -- and all of them
 all-lines : (ls : List (List ℕ)) (N Q k : ℕ) (seen rates distortions : List ℕ) → first-fault N Q k seen ls ≡ none → Sound (cells N Q) rates distortions →
-    Wrote (cells N Q) rates distortions (rates-from Q rates ls) (distortions-from Q distortions ls)
+    Wrote (cells N Q) rates distortions (table-from rate-of Q rates ls) (table-from distortion-of Q distortions ls)
 all-lines [] N Q k seen rates distortions h s = record { sound = s; rates-behind = refl; distortions-behind = refl }
 all-lines (l ∷ ls) N Q k seen rates distortions h s =
     let b = none-else (fault N Q k seen (says-of l)) (first-fault N Q (suc k) (seen-with Q (says-of l) seen) ls) h in
     let one = one-line N Q k seen rates distortions (says-of l) (b .0) s in
-    let later = all-lines ls N Q (suc k) (seen-with Q (says-of l) seen) (with-rate Q rates (says-of l)) (with-distortion Q distortions (says-of l)) (b .1) (one .sound) in
+    let later = all-lines ls N Q (suc k) (seen-with Q (says-of l) seen) (with-said rate-of Q rates (says-of l)) (with-said distortion-of Q distortions (says-of l)) (b .1) (one .sound) in
     record {
       sound = later .sound;
       rates-behind = later .rates-behind ∙ one .rates-behind;
@@ -83,17 +84,6 @@ all-lines (l ∷ ls) N Q k seen rates distortions h s =
     }
 
 -- tables that are filled are sound
-fill-at : (k x : ℕ) (t : List ℕ) (i : ℕ) → i < k → getD (filled k x t) i 0 ≡ x
-fill-at k x t i h =
-    let n : length (replicate {A = ℕ} k x) ≡ k = length-replicate k x in
-    List·getD-append (replicate k x) (drop k t) 0 i (omega (arith, n)) ∙ getD-replicate k i x 0 h
-
-fill-room : (k x : ℕ) (t : List ℕ) → k ≤ length (filled k x t)
-fill-room k x t = omega (arith, length-append (replicate k x) (drop k t), length-replicate k x)
-
-fill-behind : (k x : ℕ) (t : List ℕ) → drop k (filled k x t) ≡ drop k t
-fill-behind k x t = drop-at (replicate k x) (drop k t) k (length-replicate k x)
-
 filled-sound : (k : ℕ) (R D : List ℕ) → Sound k (filled k forbidden R) (filled k 0 D)
 filled-sound k R D = record {
   rates-room = fill-room k forbidden R;
@@ -113,8 +103,8 @@ zero-of (inr a) e = a .1
 pub imported-legal : (N Q : ℕ) (text R D : List ℕ) → first-fault N Q 1 [] (lines text) ≡ none → ImportedLegal N Q text R D
 imported-legal N Q text R D h =
     let k = cells N Q in
-    let r = rates-from Q (filled (cells N Q) forbidden R) (lines text) in
-    let d = distortions-from Q (filled (cells N Q) 0 D) (lines text) in
+    let r = table-from rate-of Q (filled (cells N Q) forbidden R) (lines text) in
+    let d = table-from distortion-of Q (filled (cells N Q) 0 D) (lines text) in
     let w = all-lines (lines text) N Q 1 [] (filled (cells N Q) forbidden R) (filled (cells N Q) 0 D) h (filled-sound (cells N Q) R D) in
     let front : (c : ℕ) → c < cells N Q → SoundCell (getD (imported-rates N Q text R) c 0) (getD (imported-distortions N Q text D) c 0) =
     λ c g. let p = getD-take k r c 0 g in let q = getD-take k d c 0 g in rw (p, q) (w .sound .cells-sound c g) in

@@ -9,17 +9,20 @@ use native.Mathlib.Omega.{arith}
 use lib.Dec.{eqb}
 use lib.ListN.{length, getD, take, drop, length-append}
 use lib.Seq.{take-append-seam, drop-append-add}
-use borrow.Author.Tests.{eq-eqb, ne-eqb, eqb-true, eqb-false}
-use Rattle.lines.specs.Text.{line-end, line, after, lines, joined, fields, content, digit, all-digits, number}
+use borrow.Author.Tests.{ne-eqb, eqb-true, eqb-false}
+use Rattle.laws.proofs.Tests.{both}
+use Rattle.reading.specs.Text.{digit}
+use Rattle.lines.specs.Text.{line-end, line, after, lines, joined, fields, content, all-digits, number}
 use Rattle.lines.specs.Said.{previous, five-numbers, says-of}
 use Rattle.lines.specs.Parts.{LineEnds, previous-after}
 use Rattle.lines.proofs.LineLaws.{lines-go-on}
-use Rattle.lines.proofs.ContentLaws.{digit-bounds}
+use Rattle.reading.proofs.WordLaws.{digit-bounds}
 use Rattle.lines.proofs.SaidLaws.{five-say, previous-zero, previous-later}
 use Rattle.exports.specs.declared.place.Place.{Place}
-use Rattle.exports.specs.Export.{decimal, previous-field, export-line}
-use Rattle.lists.specs.Shown.{line-of, said-at}
-use Rattle.lists.proofs.DecimalLaws.{both, decimal-written, number-decimal, content-decimal}
+use Rattle.exports.specs.Export.{decimal, previous-field, line-text, export-line}
+use Rattle.exports.proofs.LineLaws.{previous-none, previous-some}
+use Rattle.lists.specs.Shown.{said-at}
+use Rattle.lists.proofs.DecimalLaws.{decimal-written, number-decimal, content-decimal}
 
 -- ---- lists without a byte
 
@@ -93,22 +96,10 @@ five-fields a b c d e f g h i j =
 
 -- ---- an exported line
 
-five-ended : (a b c d e t : List ℕ) → (a ++ (44 ∷ b ++ (44 ∷ c ++ (44 ∷ d ++ (44 ∷ e))))) ++ t ≡ a ++ (44 ∷ b ++ (44 ∷ c ++ (44 ∷ d ++ (44 ∷ e ++ t))))
-five-ended a b c d e t =
-    append-assoc a (44 ∷ b ++ (44 ∷ c ++ (44 ∷ d ++ (44 ∷ e)))) t
-    ∙ ap (λ (l : List ℕ). a ++ l) (append-assoc (44 ∷ b) (44 ∷ c ++ (44 ∷ d ++ (44 ∷ e))) t
-    ∙ ap (λ (l : List ℕ). (44 ∷ b) ++ l) (append-assoc (44 ∷ c) (44 ∷ d ++ (44 ∷ e)) t
-    ∙ ap (λ (l : List ℕ). (44 ∷ c) ++ l) (append-assoc (44 ∷ d) (44 ∷ e) t)))
-
-pub export-line-is : (p : Place) (rate distortion : ℕ) → export-line p rate distortion ≡ line-of p rate distortion ++ (13 ∷ 10 ∷ [])
-unfolding export-line
-export-line-is p rate distortion =
-    sym (five-ended (decimal (p .scan)) (previous-field p) (decimal (p .setting)) (decimal rate) (decimal distortion) (13 ∷ 10 ∷ []))
-
 -- numbers of at most seven digits
 pub record Sized (p : Place) (rate distortion : ℕ) : Type 0 where
   pub scan : p .scan < 10000000
-  pub before : p .before < 10000000
+  pub previous : p .previous < 10000000
   pub setting : p .setting < 10000000
   pub rate-small : rate < 10000000
   pub distortion-small : distortion < 10000000
@@ -116,45 +107,37 @@ pub record Sized (p : Place) (rate distortion : ℕ) : Type 0 where
 decimal-free : (x : ℕ) → x < 48 → (y : ℕ) → y < 10000000 → Free x (decimal y)
 decimal-free x h y g = free-digits x h (decimal y) (decimal-written y g .digits)
 
--- the previous field, and what it says
-field-zero : (p : Place) → p .scan ≡ 0 → previous-field p ≡ []
-unfolding previous-field
-field-zero p e = ap (λ (b : Bool). cond b [] (decimal (p .before))) (eq-eqb (p .scan) 0 e)
-
-field-later : (p : Place) → p .scan ≢ 0 → previous-field p ≡ decimal (p .before)
-unfolding previous-field
-field-later p e = ap (λ (b : Bool). cond b [] (decimal (p .before))) (ne-eqb (p .scan) 0 e)
-
 content-empty : content [] ≡ []
 unfolding content
 content-empty = refl
 
+-- the previous field, and what it says
 pub record Previous (p : Place) : Type 0 where
   pub free : (x : ℕ) → x < 48 → Free x (previous-field p)
-  pub says : previous (p .scan) (content (previous-field p)) ≡ some (cond (eqb (p .scan) 0) 0 (p .before))
+  pub says : previous (p .scan) (content (previous-field p)) ≡ some (cond (eqb (p .scan) 0) 0 (p .previous))
 
-previous-is : (p : Place) → p .before < 10000000 → Previous p
+previous-is : (p : Place) → p .previous < 10000000 → Previous p
 previous-is p h = of (eqb (p .scan) 0) refl
   where
     of : (b : Bool) → eqb (p .scan) 0 ≡ b → Previous p
     of true e =
         let z = eqb-true (p .scan) 0 e in
-        let f = field-zero p z in
+        let f = previous-none p z in
         record {
           free = λ x l. rw f tt;
           says = previous-zero (p .scan) (content (previous-field p)) z ∙ ap (λ (l : List ℕ). cond (eqb (length (content l)) 0) (some 0) none) f
-              ∙ ap (λ (l : List ℕ). cond (eqb (length l) 0) (some 0) none) content-empty ∙ ap (λ (b : Bool). some (cond b 0 (p .before))) (sym e);
+              ∙ ap (λ (l : List ℕ). cond (eqb (length l) 0) (some 0) none) content-empty ∙ ap (λ (b : Bool). some (cond b 0 (p .previous))) (sym e);
         }
     of false e =
         let z = eqb-false (p .scan) 0 e in
-        let f = field-later p z in
+        let f = previous-some p z in
         record {
-          free = λ x l. rw f (decimal-free x l (p .before) h);
+          free = λ x l. rw f (decimal-free x l (p .previous) h);
           says = previous-later (p .scan) (content (previous-field p)) z ∙ ap (λ (l : List ℕ). number (content l)) f
-              ∙ ap number (content-decimal (p .before) h) ∙ number-decimal (p .before) h ∙ ap (λ (b : Bool). some (cond b 0 (p .before))) (sym e);
+              ∙ ap number (content-decimal (p .previous) h) ∙ number-decimal (p .previous) h ∙ ap (λ (b : Bool). some (cond b 0 (p .previous))) (sym e);
         }
 
-line-free : {p : Place} {rate distortion : ℕ} → Sized p rate distortion → Free 13 (line-of p rate distortion)
+line-free : {p : Place} {rate distortion : ℕ} → Sized p rate distortion → Free 13 (line-text p rate distortion)
 line-free {p} {rate} {distortion} s =
     let h : 13 < 48 = omega arith in
     let c : _≢_ {A = ℕ} 44 13 = λ z. omega arith in
@@ -163,7 +146,7 @@ line-free {p} {rate} {distortion} s =
     let second = previous-field p ++ (44 ∷ third) in
     free-append 13 (decimal (p .scan)) (44 ∷ second) (decimal-free 13 h (p .scan) (s .scan)) (
       c,
-      free-append 13 (previous-field p) (44 ∷ third) (previous-is p (s .before) .free 13 h) (
+      free-append 13 (previous-field p) (44 ∷ third) (previous-is p (s .previous) .free 13 h) (
         c,
         free-append 13 (decimal (p .setting)) (44 ∷ fourth) (decimal-free 13 h (p .setting) (s .setting)) (
           c,
@@ -175,9 +158,9 @@ line-free {p} {rate} {distortion} s =
 
 -- it is one line
 pub lines-export : {p : Place} {rate distortion : ℕ} → Sized p rate distortion → (rest : List ℕ) →
-    lines (export-line p rate distortion ++ rest) ≡ line-of p rate distortion ∷ lines rest
-lines-export {p} {rate} {distortion} s rest =
-    ap (λ (l : List ℕ). lines (l ++ rest)) (export-line-is p rate distortion) ∙ lines-line (line-of p rate distortion) rest (line-free s)
+    lines (export-line p rate distortion ++ rest) ≡ line-text p rate distortion ∷ lines rest
+unfolding export-line
+lines-export {p} {rate} {distortion} s rest = lines-line (line-text p rate distortion) rest (line-free s)
 
 read-decimal : (x : ℕ) → x < 10000000 → number (content (decimal x)) ≡ some x
 read-decimal x h = ap number (content-decimal x h) ∙ number-decimal x h
@@ -187,15 +170,15 @@ numbers-are : (s q r x : Option ℕ) (e : List ℕ) (a b c d f : ℕ) → s ≡ 
 numbers-are s q r x e a b c d f h i j k l = rw (h, j, k, l, i) refl
 
 -- and it says what was exported
-pub line-says : {p : Place} {rate distortion : ℕ} → Sized p rate distortion → says-of (line-of p rate distortion) ≡ some (said-at p rate distortion)
+pub line-says : {p : Place} {rate distortion : ℕ} → Sized p rate distortion → says-of (line-text p rate distortion) ≡ some (said-at p rate distortion)
 line-says {p} {rate} {distortion} s =
     let h : 44 < 48 = omega arith in
-    let before = previous-is p (s .before) in
-    sym (five-say (line-of p rate distortion) (decimal (p .scan)) (previous-field p) (decimal (p .setting)) (decimal rate) (decimal distortion)
+    let before = previous-is p (s .previous) in
+    sym (five-say (line-text p rate distortion) (decimal (p .scan)) (previous-field p) (decimal (p .setting)) (decimal rate) (decimal distortion)
     (five-fields (decimal (p .scan)) (previous-field p) (decimal (p .setting)) (decimal rate) (decimal distortion)
     (decimal-free 44 h (p .scan) (s .scan)) (before .free 44 h) (decimal-free 44 h (p .setting) (s .setting)) (decimal-free 44 h rate (s .rate-small))
     (decimal-free 44 h distortion (s .distortion-small))))
     ∙ numbers-are (number (content (decimal (p .scan)))) (number (content (decimal (p .setting)))) (number (content (decimal rate))) (number (content (decimal distortion)))
-    (content (previous-field p)) (p .scan) (cond (eqb (p .scan) 0) 0 (p .before)) (p .setting) rate distortion
+    (content (previous-field p)) (p .scan) (cond (eqb (p .scan) 0) 0 (p .previous)) (p .setting) rate distortion
     (read-decimal (p .scan) (s .scan)) (before .says) (read-decimal (p .setting) (s .setting)) (read-decimal rate (s .rate-small))
     (read-decimal distortion (s .distortion-small))

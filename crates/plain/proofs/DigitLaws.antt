@@ -6,8 +6,9 @@ use Prim.Native.Nat.{ℕ, suc, _+_, _*_, _-_, _≤_, _<_}
 use native.Mathlib.Decide.{ℕ-discrete}
 use native.Mathlib.Omega.{arith}
 use lib.ListN.{length, getD}
-use Rattle.lines.specs.Text.{digit}
-use Rattle.lines.proofs.ContentLaws.{DigitsSoFar, digits-start, digits-go-on, digits-end, most, most-seven, digit-bounds}
+use Rattle.reading.specs.Text.{digit}
+use Rattle.reading.proofs.WordLaws.{digit-bounds}
+use Rattle.lines.proofs.ContentLaws.{DigitsSoFar, digits-start, digits-go-on, digits-end, most, most-seven}
 use Rattle.plain.specs.declared.digits.Digits.{Digits}
 use Rattle.plain.specs.Parts.{Plainly, DigitsAt}
 

@@ -11,12 +11,14 @@ use lib.ListN.{length, getD, drop, List·getD-eq-default}
 use lib.Seq.{slice, slice-empty}
 use borrow.Author.Tests.{ne-eqb}
 use Rattle.laws.proofs.Tests.{cases, never}
-use Rattle.lines.specs.Text.{line-end, fields, content, digit, number}
+use Rattle.reading.specs.Text.{digit}
+use Rattle.reading.proofs.WordLaws.{digit-bounds}
+use Rattle.lines.specs.Text.{line-end, fields, content, number}
 use Rattle.lines.specs.Said.{previous, says-of}
 use Rattle.lines.specs.Parts.{LineEnds, CommaAt}
 use Rattle.lines.proofs.LineLaws.{LineSoFar, by-bytes, line-starts, line-goes-on, line-ends, text-ends}
 use Rattle.lines.proofs.FieldLaws.{parted, alone}
-use Rattle.lines.proofs.ContentLaws.{short-plain, by-ends, content-plain, digit-bounds}
+use Rattle.lines.proofs.ContentLaws.{short-plain, by-ends, content-plain}
 use Rattle.lines.proofs.SaidLaws.{five-read, previous-zero, previous-later}
 use Rattle.plain.specs.declared.digits.Digits.{Digits}
 use Rattle.plain.specs.declared.plain.Part.{Part}

@@ -7,7 +7,8 @@ use mathlib.Core.List.{List}
 use Prim.Native.Nat.{ℕ, _≤_, _<_}
 use lib.ListN.{length, getD, drop}
 use lib.Seq.{slice}
-use Rattle.lines.specs.Text.{line-end, digit, number}
+use Rattle.reading.specs.Text.{digit}
+use Rattle.lines.specs.Text.{line-end, number}
 use Rattle.lines.specs.Said.{previous, says-of}
 use Rattle.lines.specs.Parts.{LineEnds}
 use Rattle.plain.specs.declared.digits.Digits.{Digits}

@@ -1,6 +1,7 @@
 // Digits from a place on.
-use lines::field::is_digit;
-use lines::field::value;
+use lines::field::MOST_DIGITS;
+use reading::is_digit;
+use reading::value;
 ghost use Prim.Native.Nat.{_+_, _≤_};
 ghost use lib.ListN.{length};
 ghost use Rattle.plain.specs.Parts.{DigitsAt};
@@ -10,9 +11,6 @@ pub struct Digits {
     pub value: u64,
     pub to: usize,
 }
-
-// "one to seven decimal digits"
-const MOST_DIGITS: usize = 7;
 
 // Seven places on, or the end of the text.
 fn seven_on(from: usize, text: usize) -> usize

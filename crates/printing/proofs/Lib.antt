@@ -1,5 +1,4 @@
 -- The laws of the lines.
-pub mod PutLaws
 pub mod DecimalLaws
 pub mod TextLaws
 pub mod Examples

@@ -1,3 +1,2 @@
--- The lines that bench writes, byte by byte (Lines), and a text in a lent buffer (Put).
+-- The lines that bench writes, byte by byte (Lines).
 pub mod Lines
-pub mod Put

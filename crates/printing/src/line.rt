@@ -15,7 +15,7 @@ ghost use mathlib.Core.Path.{_≡_};
 ghost use Prim.Native.Nat.{_+_, _*_, _≤_};
 ghost use lib.ListN.{length};
 ghost use Rattle.printing.specs.Lines.{ratio, sums, «ave-text», «minmax-text», «said-text», line, «average-said», «minmax-said»};
-ghost use Rattle.printing.specs.Put.{Put};
+ghost use Rattle.laws.specs.Put.{Put};
 
 // What a line says after its first word: a plan, or that there is none.
 pub enum Said {

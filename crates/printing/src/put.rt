@@ -4,7 +4,7 @@ ghost use Prim.Native.Nat.{suc, _+_, _≤_};
 ghost use lib.ListN.{length};
 ghost use lib.Seq.{sets};
 ghost use Rattle.printing.specs.Lines.{decimal, spaced, named};
-ghost use Rattle.printing.specs.Put.{Put};
+ghost use Rattle.laws.specs.Put.{Put};
 
 pub fn put(out: &mut [u8], at: usize, bytes: &[u8]) -> usize
     requires { ⌜ at + length (now bytes) ≤ length (now out) ⌝ }

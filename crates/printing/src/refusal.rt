@@ -7,7 +7,7 @@ ghost use Prim.Native.Nat.{_+_, _≤_};
 ghost use lib.ListN.{length};
 ghost use Rattle.tables.specs.Refusals.{numberOf, carriedBy};
 ghost use Rattle.printing.specs.Lines.{«refusal-text»};
-ghost use Rattle.printing.specs.Put.{Put};
+ghost use Rattle.laws.specs.Put.{Put};
 
 // The word and its number, and for 7, an illegal cell, where it stands.
 pub fn put_refusal(out: &mut [u8], at: usize, r: Refusal) -> usize

@@ -5,7 +5,7 @@ use bytes::cast::byte_to_number;
 ghost use Prim.Native.Nat.{_+_, _*_, _≤_, _<_};
 ghost use lib.ListN.{length};
 ghost use Rattle.printing.specs.Lines.{numbered, planned};
-ghost use Rattle.printing.specs.Put.{Put};
+ghost use Rattle.laws.specs.Put.{Put};
 
 // A space and three digits at most for each setting.
 fn put_settings(out: &mut [u8], at: usize, settings: &[u8]) -> usize

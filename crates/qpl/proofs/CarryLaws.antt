@@ -13,7 +13,7 @@ use Rattle.tables.specs.declared.refusal.Refusal.the-variants as refusal
 use Rattle.tables.specs.Refusals.{Reply, refused, numberOf, carriedBy}
 use Rattle.tables.specs.Limits.{most-scans, most-settings}
 use Rattle.tables.specs.Tables.{cells, scratch-need}
-use Rattle.checks.specs.Planning.{Asked, Unsound, early, illegal, channels-out, scans-out, settings-out, lengths-out}
+use Rattle.checks.specs.Planning.{Asked, Unsound, early, illegal, channels-out, scans-out, settings-out}
 use Rattle.checks.proofs.GiveLaws.{Gives, given, gives-when, gives-else, gives-first, gives-found}
 use Rattle.checks.proofs.PlanningLaws.{early-gives, admitted, lengths-exact, sound-fit, sound-plan}
 use Rattle.rules.proofs.FieldLaws.{rules-give}
@@ -36,9 +36,8 @@ use Rattle.planfile.proofs.ReadLaws.{two-lengths}
 use Rattle.planfile.proofs.WriteLaws.{scans-inside}
 use Rattle.planfile.proofs.Accepted.{passed}
 use Rattle.promise.specs.Promise.{Promise, unsound, no-sequence, none-within, planned}
-use Rattle.exports.specs.Export.{cell-illegal, export-text, export-refusal, export-answered}
 use Rattle.telling.specs.Told.{lent, word-of}
-use Rattle.qpl.specs.Surface.{room-told, export-told}
+use Rattle.qpl.specs.Surface.{room-told}
 use Rattle.telling.specs.Parts.{Tellable}
 use Rattle.telling.proofs.AnswerLaws.{tellable-refusal, tellable-as}
 
@@ -132,7 +131,7 @@ write-carries f settings room r e = tellable-refusal r e
     (or-tellable (write-refusal f settings room) (file-length (f .scans) ∷ []) 8 (write-light f settings room) (λ z. omega arith))
 
 -- one more test behind the checks of a call
-more-check : (o : Option Refusal) (t : Bool) (r : Refusal) (v : List ℕ) →
+pub more-check : (o : Option Refusal) (t : Bool) (r : Refusal) (v : List ℕ) →
     or-answer (or-else o (when t r)) v ≡ cond (eqb (or-answer o v .number) 0 && t) (refused r) (or-answer o v)
 more-check none true r v = refl
 more-check none false r v = refl
@@ -157,44 +156,6 @@ room-tellable C N Q n =
     (or-tellable (or-else o short) v n
     (gives-else Little o short (room-light C N Q) (λ e. gives-when Little (ltb n 24) refusal.Buffer (omega arith)))
     (λ e. ltb-false n 24 (none-when (ltb n 24) refusal.Buffer (none-else o short e .1))))
-
--- a cell's number is below the number of cells
-export-light : (N Q : ℕ) (rates distortions : List ℕ) (room : ℕ) → Gives Little (export-refusal N Q rates distortions room)
-unfolding export-refusal
-export-light N Q rates distortions room =
-    gives-else Little (when (scans-out N) refusal.Scans) _ (gives-when Little (scans-out N) refusal.Scans (omega arith)) (λ e.
-    gives-else Little (when (settings-out Q) refusal.Settings) _ (gives-when Little (settings-out Q) refusal.Settings (omega arith)) (λ f.
-    gives-else Little (when (lengths-out N Q rates distortions) refusal.Lengths) _
-    (gives-when Little (lengths-out N Q rates distortions) refusal.Lengths (omega arith)) (λ g.
-    let n = in-range {most = most-scans} {x = N} (none-when (scans-out N) refusal.Scans e) in
-    let q = in-range {most = most-settings} {x = Q} (none-when (settings-out Q) refusal.Settings f) in
-    let w = lengths-exact N Q rates distortions (none-when (lengths-out N Q rates distortions) refusal.Lengths g) in
-    let c = cells-small {N = N} {Q = Q} (n .1) (q .1) in
-    gives-else Little (found refusal.Cell (first-from (cell-illegal rates distortions) 0 (length rates))) _
-    (gives-found Little (length rates) refusal.Cell (cell-illegal rates distortions) 0 (λ i h. omega (arith, w .0, c))) (λ h.
-    gives-else Little (when (ltb room (length (export-text N Q rates distortions))) refusal.Buffer) none
-    (gives-when Little (ltb room (length (export-text N Q rates distortions))) refusal.Buffer (omega arith)) (λ z. tt)))))
-
--- the export's answer buffer is a test behind its checks
-pub export-last : (N Q : ℕ) (rates distortions : List ℕ) (room n : ℕ) (o : Option Refusal) {p : Option Refusal} (v : List ℕ) →
-    or-answer o v ≡ export-answered N Q rates distortions (lent 8 n room) → p ≡ or-else o (when (ltb n 8) refusal.Buffer) →
-    or-answer p v ≡ export-told N Q rates distortions room n
-unfolding export-told
-export-last N Q rates distortions room n o v e f =
-    ap (λ x. or-answer x v) f
-    ∙ more-check o (ltb n 8) refusal.Buffer v
-    ∙ ap (λ (reply : Reply). cond (eqb (reply .number) 0 && ltb n 8) (refused refusal.Buffer) reply) e
-
-pub export-tellable : (N Q : ℕ) (rates distortions : List ℕ) (room n : ℕ) → Tellable (export-told N Q rates distortions room n) n
-unfolding export-answered
-export-tellable N Q rates distortions room n =
-    let o = export-refusal N Q rates distortions (lent 8 n room) in
-    let short = when (ltb n 8) refusal.Buffer in
-    let v : List ℕ = length (export-text N Q rates distortions) ∷ [] in
-    tellable-as (sym (export-last N Q rates distortions room n o v refl refl))
-    (or-tellable (or-else o short) v n
-    (gives-else Little o short (export-light N Q rates distortions (lent 8 n room)) (λ e. gives-when Little (ltb n 8) refusal.Buffer (omega arith)))
-    (λ e. ltb-false n 8 (none-when (ltb n 8) refusal.Buffer (none-else o short e .1))))
 
 -- what goes back of an import: 0, or the refusal's word
 pub import-word : (o : Option Refusal) → o ≡ none → 0 ≡ word-of (or-answer o [])

@@ -1,6 +1,6 @@
-// The C surface (include/qpl.h): the room question, the reader and the writer of plan files, and the four planning calls. Each function is
-// one call of the layer below. It gives back 0, or a refusal's number with what it carries in the high 32 bits; what it answers goes to a
-// lent buffer.
+// The C surface (include/qpl.h): the room question, import and export of lists, the reader and the writer of plan files, and the four planning
+// calls. Each function is one call of the layer below. It gives back 0, or a refusal's number with what it carries in the high 32 bits; what
+// it answers goes to a lent buffer.
 use checks::stage::Stage;
 use checks::stage::then;
 use exports::export::export;
@@ -29,14 +29,14 @@ use telling::tell;
 use telling::word;
 ghost use mathlib.Core.Path.{_≡_};
 ghost use Prim.Native.Nat.{_≤_};
-ghost use mathlib.Core.List.{[]};
+ghost use mathlib.Core.List.{[], _∷_};
 ghost use lib.ListN.{length};
 ghost use Rattle.checks.specs.Planning.{asking};
 ghost use Rattle.promise.specs.Promise.{CeilingPromise, MultiplierPromise, MinmaxPromise, AveragePromise, «plan-reply», «minmax-reply», «average-reply»};
 ghost use Rattle.planfile.specs.Reading.{«read-of», «read-refusal», «settings-after»};
 ghost use Rattle.checks.specs.Checks.{«or-answer»};
 ghost use Rattle.imports.specs.Import.{«import-of»};
-ghost use Rattle.exports.specs.Export.{«export-refusal», «text-after»};
+ghost use Rattle.exports.specs.Export.{«export-text», «text-after»};
 ghost use Rattle.planfile.specs.Writing.{«write-of», «write-refusal», «file-after»};
 ghost use Rattle.telling.specs.Told.{Told, «word-of», lent as Lent};
 ghost use Rattle.telling.specs.Parts.{«answer-reply»};
@@ -88,7 +88,8 @@ pub extern "C" fn qpl_import(
     word(refusal)
 }
 
-// The export, with the answer buffer as the last thing asked for.
+// The export, with the answer buffer as part of 6. A short one counts as if no byte were lent for the text, so that none is written; it is
+// asked for once more behind the export, since the text of tables that are forbidden throughout needs no byte.
 fn export_told(
     scans: u64,
     settings: u64,
@@ -97,8 +98,8 @@ fn export_told(
     text: &mut [u8],
     answer: usize,
 ) -> Answer
-    ensures { λ r. ⌜ (answer-reply r ≡ export-told scans settings (now (rates .entry)) (now (distortions .entry)) (length (now (text .entry))) answer) × (r .count ≤ 11) ⌝ }
-    ensures { λ _. ⌜ now (text .exit) ≡ text-after (export-refusal scans settings (now (rates .entry)) (now (distortions .entry)) (Lent 8 answer (length (now (text .entry))))) scans settings (now (rates .entry)) (now (distortions .entry)) (now (text .entry)) ⌝ }
+    ensures { λ r. ⌜ (answer-reply r ≡ or-answer (export-told scans settings (now (rates .entry)) (now (distortions .entry)) (length (now (text .entry))) answer) (length (export-text scans settings (now (rates .entry)) (now (distortions .entry))) ∷ [])) × (r .count ≤ 11) ⌝ }
+    ensures { λ _. ⌜ now (text .exit) ≡ text-after (export-told scans settings (now (rates .entry)) (now (distortions .entry)) (length (now (text .entry))) answer) scans settings (now (rates .entry)) (now (distortions .entry)) (now (text .entry)) ⌝ }
 {
     let room = lent(8, answer, text.len());
     let told = export_answer(export(scans, settings, rates, distortions, &mut text[..room]));
@@ -122,8 +123,8 @@ pub extern "C" fn qpl_export(
     text: &mut [u8],
     answer: &mut [u8],
 ) -> u64
-    ensures { λ r. ⌜ Told (export-told scans settings (now (rates .entry)) (now (distortions .entry)) (length (now (text .entry))) (length (now (answer .entry)))) (now (answer .entry)) r (now (answer .exit)) ⌝ }
-    ensures { λ _. ⌜ now (text .exit) ≡ text-after (export-refusal scans settings (now (rates .entry)) (now (distortions .entry)) (Lent 8 (length (now (answer .entry))) (length (now (text .entry))))) scans settings (now (rates .entry)) (now (distortions .entry)) (now (text .entry)) ⌝ }
+    ensures { λ r. ⌜ Told (or-answer (export-told scans settings (now (rates .entry)) (now (distortions .entry)) (length (now (text .entry))) (length (now (answer .entry)))) (length (export-text scans settings (now (rates .entry)) (now (distortions .entry))) ∷ [])) (now (answer .entry)) r (now (answer .exit)) ⌝ }
+    ensures { λ _. ⌜ now (text .exit) ≡ text-after (export-told scans settings (now (rates .entry)) (now (distortions .entry)) (length (now (text .entry))) (length (now (answer .entry)))) scans settings (now (rates .entry)) (now (distortions .entry)) (now (text .entry)) ⌝ }
 {
     let told = export_told(scans, settings, rates, distortions, text, answer.len());
     tell(told, answer)

@@ -1,26 +1,22 @@
 -- A word as it is held, and the word that stands open. Assumes nothing.
 use mathlib.Core.Path.{_≡_, refl, sym, ap, subst}
-use mathlib.Core.Bool.{Bool, true, false, cond, _&&_, true≢false}
+use mathlib.Core.Bool.{Bool, true, false, cond}
 use mathlib.Core.Option.{Option, none, some}
 use mathlib.Core.List.{[], _∷_}
 use Prim.Native.Nat.{ℕ, suc, _+_, _-_, _*_, _≤_, _<_, min}
 use native.Mathlib.Omega.{arith}
 use lib.Dec.{ltb, leb}
 use borrow.Author.Tests.{lt-ltb, le-ltb, leb-true}
+use Rattle.laws.proofs.Tests.{both}
 use Rattle.reading.specs.Text.{Open, between, digits, other, most-number, digit, closed}
 use Rattle.reading.specs.Fed.{Shows}
 use Rattle.reading.specs.Parts.{Grows}
 use Rattle.reading.specs.declared.Word.{Word}
 use Rattle.reading.specs.declared.Word.the-variants.{Between, Digits, Other}
 
-both-true : (a b : Bool) → (a && b) ≡ true → (a ≡ true) × (b ≡ true)
-both-true true true e = (refl, refl)
-both-true true false e = absurd (true≢false (sym e))
-both-true false b e = absurd (true≢false (sym e))
-
 pub digit-bounds : (c : ℕ) → digit c ≡ true → (48 ≤ c) × (c ≤ 57)
 digit-bounds c e =
-    let h = both-true (leb 48 c) (leb c 57) e in
+    let h = both (leb 48 c) (leb c 57) e in
     (leb-true 48 c (h .0), leb-true c 57 (h .1))
 
 pub held-between : (w : Open) → Shows Between w → w ≡ between

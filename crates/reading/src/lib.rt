@@ -79,7 +79,7 @@ fn is_separator(c: u8) -> bool
     (c == 32) | (c == 9) | (c == 13) | (c == 10)
 }
 
-fn is_digit(c: u8) -> bool
+pub fn is_digit(c: u8) -> bool
     ensures { λ r. ⌜ r ≡ digit c ⌝ }
 {
     (48 <= c) & (c <= 57)
@@ -100,7 +100,7 @@ fn grown(w: Word, c: u8) -> Word
 }
 
 // What a digit stands for.
-fn value(c: u8) -> u64
+pub fn value(c: u8) -> u64
     requires { ⌜ digit c ≡ true ⌝ }
     ensures { λ r. ⌜ (r ≡ c - 48) × (r < 10) ⌝ }
 {

@@ -2,22 +2,17 @@
 -- module splits on a law's number. Assumes nothing.
 use mathlib.Core.Path.{_≡_, refl}
 use mathlib.Core.Logic.{_↔_}
-use mathlib.Core.Bool.{Bool, true, false, not, _||_, _&&_}
+use mathlib.Core.Bool.{Bool, true, false, not, _||_}
 use Prim.Native.Nat.{ℕ, zero, suc, _+_, _-_, _≤_, _<_, min}
 use native.Mathlib.Decide.{decLe}
 use native.Mathlib.Omega.{arith}
 use lib.Dec.{leb, eqb}
 use borrow.Author.Tests.{leb-true, le-leb, eqb-true, ne-eqb}
-use Rattle.laws.proofs.Tests.{never}
+use Rattle.laws.proofs.Tests.{never, both}
 use Rattle.criteria.proofs.Decide.{dec-×}
 use Rattle.tables.specs.Law.{any-step, within-two, law-of, allows, law-out, SideBySide}
 
 -- ---- the test
-
--- both of two tests hold
-both : (s t : Bool) → (s && t) ≡ true → (s ≡ true) × (t ≡ true)
-both true t e = (refl, e)
-both false t e = never cc
 
 -- the test says what the law does
 pub allows-law : (law p q : ℕ) → (allows law p q ≡ true) ↔ law-of law p q

@@ -1,6 +1,7 @@
 pub mod CellLaws
 pub mod LawLaws
 pub mod RefusalLaws
+pub mod LegalTests
 pub mod Listing
 pub mod Bench
 pub mod SeriesLaws

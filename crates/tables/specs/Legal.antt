@@ -1,8 +1,10 @@
 -- Legal cells, and the lowest illegal one. The law plays no part: "Cells that the law rules out must still hold legal values." Assumes nothing.
 use mathlib.Core.Path.{_≡_}
 use mathlib.Core.Logic.{_≢_, _⊎_}
+use mathlib.Core.Bool.{Bool, not, _||_}
 use mathlib.Core.List.{List}
 use Prim.Native.Nat.{ℕ, _≤_, _<_}
+use lib.Dec.{eqb, leb}
 use lib.ListN.{length, getD}
 use Rattle.tables.specs.Limits.{most-scans, most-settings, most-cell, forbidden}
 use Rattle.tables.specs.Tables.{Table, cells}
@@ -18,6 +20,11 @@ LegalBeside r D = (D ≤ most-cell) ⊎ (r ≡ forbidden)
 -- cell k of the two tables
 abbrev pub LegalCell : List ℕ → List ℕ → ℕ → Type 0
 LegalCell rates distortions k = LegalRate (getD rates k 0) × LegalBeside (getD rates k 0) (getD distortions k 0)
+
+-- .. denied, as a test: the rate is neither in range nor the marker, or the rate is not the marker and the distortion is out of range
+abbrev pub cell-illegal : (rates distortions : List ℕ) → ℕ → Bool
+cell-illegal rates distortions k =
+    not (leb (getD rates k 0) most-cell || eqb (getD rates k 0) forbidden) || not (leb (getD distortions k 0) most-cell || eqb (getD rates k 0) forbidden)
 
 abbrev pub AllLegal : List ℕ → List ℕ → Type 0
 AllLegal rates distortions = (k : ℕ) → k < length rates → LegalCell rates distortions k

@@ -39,7 +39,7 @@ pub enum Refusal {
     Twice(u64),
 }
 
-// Document 01's number of a refusal.
+// The documents' number of a refusal.
 pub fn number(r: Refusal) -> u64
     ensures { λ n. ⌜ n ≡ numberOf r ⌝ }
 {

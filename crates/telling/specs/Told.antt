@@ -25,7 +25,7 @@ answer-after reply answer = cond (eqb (reply .number) 0) (eights (reply .values)
 abbrev pub Told : Reply → (answer : List ℕ) → (word : ℕ) → (answer′ : List ℕ) → Type 0
 Told reply answer word answer′ = (word ≡ word-of reply) × (answer′ ≡ answer-after reply answer)
 
--- Where document 01 asks for a buffer that holds N settings, the answer buffer is asked for with it: one that is too short counts as if no
--- byte were lent for the settings, which is refusal 6 for every N.
+-- Where a buffer is asked for that holds N settings, or the text of an export, the answer buffer is asked for with it: one that is too short
+-- counts as if no byte were lent for them. That is refusal 6 for every N; a text may have no byte, so an export asks once more.
 abbrev pub lent : (need answer room : ℕ) → ℕ
 lent need answer room = cond (ltb answer need) 0 room

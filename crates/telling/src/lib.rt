@@ -30,7 +30,7 @@ pub struct Answer {
     pub count: usize,
 }
 
-// The room for settings: none where the answer would not fit, so that the call below refuses it in its place among the checks.
+// The room for settings or for a text: none where the answer would not fit, so that the call below refuses it in its place among the checks.
 pub fn lent(need: usize, answer: usize, room: usize) -> usize
     ensures { λ r. ⌜ (r ≡ Lent need answer room) × (r ≤ room) ⌝ }
 {

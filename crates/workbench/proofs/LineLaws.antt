@@ -8,9 +8,9 @@ use lib.Seq.{sets, sets-eq, length-sets, take-at}
 use Rattle.tables.specs.declared.refusal.Refusal.{Refusal}
 use Rattle.checks.specs.Planning.{asking}
 use Rattle.printing.specs.Lines.{line, ave, minmax}
-use Rattle.printing.specs.Put.{Put}
+use Rattle.laws.specs.Put.{Put}
 use Rattle.printing.specs.declared.line.Said.the-variants.{Refused}
-use Rattle.printing.proofs.PutLaws.{next}
+use Rattle.laws.proofs.PutLaws.{next}
 use Rattle.reading.specs.Fed.{Feeds}
 use Rattle.reading.specs.declared.State.{State}
 use Rattle.workbench.specs.Request.{Request, out-of-range, to-plan}

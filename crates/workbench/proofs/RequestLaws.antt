@@ -15,7 +15,7 @@ use Rattle.tables.specs.Tables.{cells}
 use Rattle.checks.specs.Checks.{when, or-else}
 use Rattle.checks.specs.Planning.{scans-out, settings-out}
 use Rattle.tables.specs.Law.{law-out}
-use Rattle.laws.proofs.Tests.{never}
+use Rattle.laws.proofs.Tests.{never, both}
 use Rattle.reading.specs.Text.{Open, between, digits, other, words, words-from, closed, grown, separator}
 use Rattle.reading.specs.Fed.{Fed, so-far, stopped, as-words, taken-of}
 use Rattle.reading.specs.declared.State.{State}
@@ -169,15 +169,11 @@ stop-words n t word later len h w = by-few (ltb t 4) refl
 -- whatever follows, the same is asked
 pub enough-decides : (n : List ℕ) (s : State) → 8196 ≤ length n → (s .more || (leb 4 (s .taken) && settles n)) ≡ true → Decided n s
 enough-decides n s len e text (so-far w m t sh f) rest =
-    let q = both-hold _ _ (rw m at e) in
+    let q = both _ _ (rw m at e) in
     let four : 4 ≤ s .taken = leb-true 4 (s .taken) (q .0) in
     by-words (text ++ rest) (f rest) ∙ four-given n (s .taken) (words-from w rest) four t
     ∙ settled-whatever n _ _ (q .1)
     ∙ sym (by-words text (ap words (sym (append-nil text)) ∙ f []) ∙ four-given n (s .taken) (words-from w []) four t)
-  where
-    both-hold : (a b : Bool) → (a && b) ≡ true → (a ≡ true) × (b ≡ true)
-    both-hold true b e = (refl, e)
-    both-hold false b e = never (cc)
 enough-decides n s len e text (stopped word m t wh f) rest =
     by-words (text ++ rest) (f rest .1) ∙ stop-words n (s .taken) word (f rest .0) len t wh
     ∙ sym (by-words text (ap words (sym (append-nil text)) ∙ f [] .1) ∙ stop-words n (s .taken) word (f [] .0) len t wh)

@@ -8,7 +8,7 @@ use lib.ListN.{length, getD, take, drop}
 use Rattle.tables.specs.declared.refusal.Refusal.{Refusal}
 use Rattle.tables.specs.Tables.{cells}
 use Rattle.checks.specs.Planning.{scans-out}
-use Rattle.printing.specs.Put.{Put}
+use Rattle.laws.specs.Put.{Put}
 use Rattle.reading.specs.Fed.{Fed}
 use Rattle.reading.specs.declared.State.{State}
 use Rattle.workbench.specs.Request.{Request, request, bad-input, out-of-range, too-large, to-plan, range-refusal, most-cells}

@@ -5,7 +5,7 @@ use lib.Seq.{length-take-le}
 use denote.Ref.{now}
 use Rattle.checks.specs.Stages.{ended}
 use Rattle.exports.specs.Export.{export-answered}
-use Rattle.qpl.proofs.CarryLaws.{export-last}
+use Rattle.qpl.proofs.ExportLaws.{export-last, text-told}
 use Rattle.qpl.proofs.LentLaws.{front-length, text-whole}
 use borrow.Author.Needs.{needs}
 use Rattle.qpl.proofs.export_told.Statement.{statement}
@@ -43,7 +43,8 @@ returns c =
             (told .ensures .0 ∙ called .ensures .0 ∙ ap (export-answered (a .scans) (a .settings) (now (a .rates)) (now (a .distortions))) front) (c .then .ensures),
         told .ensures .1,
       ),
-      text-whole (a .scans) (a .settings) (now (a .rates)) (now (a .distortions)) (now (a .text)) (c .before .before .before .before .before .before .before .lent .result) front (called .ensures .1),
+      text-whole (a .scans) (a .settings) (now (a .rates)) (now (a .distortions)) (now (a .text)) (c .before .before .before .before .before .before .before .lent .result) front (called .ensures .1)
+          ∙ text-told (a .scans) (a .settings) (now (a .rates)) (now (a .distortions)) (length (now (a .text))) (a .answer) (now (a .text)),
     )
 
 pub export-told-spec : {M : Type 1} → statement M

@@ -1,20 +1,19 @@
 -- `exports::export::early` meets its contract: the checks in their order. Assumes nothing.
-use mathlib.Core.Path.{_≡_, refl, sym, ap, _∙_}
-use mathlib.Core.Option.{Option, none}
-use mathlib.Core.List.{List, []}
+use mathlib.Core.Path.{_≡_, sym, ap, _∙_}
+use mathlib.Core.Option.{Option}
+use mathlib.Core.List.{List}
 use lib.ListN.{take, drop}
 use denote.Ref.{now}
 use Rattle.tables.specs.declared.refusal.Refusal.{Refusal}
 use Rattle.tables.specs.declared.refusal.Refusal.the-variants as refusal
-use Rattle.legal.specs.Judged.{legality-refusal}
 use Rattle.checks.specs.Checks.{when, first-refusal}
 use Rattle.checks.specs.Planning.{lengths-out}
 use Rattle.checks.specs.Stages.{ended}
 use Rattle.checks.proofs.RangeLaws.{in-range}
-use Rattle.checks.proofs.CheckLaws.{one-more, first-append, else-nothing, all-pass, none-when}
+use Rattle.checks.proofs.CheckLaws.{first-append, else-nothing, all-pass, none-when}
 use Rattle.checks.proofs.StageLaws.{at-stop, at-pass, passed-none}
 use Rattle.checks.proofs.PlanningLaws.{lengths-exact}
-use Rattle.exports.specs.Parts.{early-checks}
+use Rattle.exports.specs.Export.{early-checks}
 use Rattle.exports.proofs.EarlyLaws.{judged-found}
 use borrow.Author.Needs.{needs}
 use Rattle.exports.proofs.export.early.Statement.{statement}
@@ -24,43 +23,24 @@ use Rattle.exports.proofs.export.early.Tie as tie
 abbrev checks : tie.Start → List (Option Refusal)
 checks s = early-checks (s .args .scans) (s .args .settings) (now (s .args .rates)) (now (s .args .distortions))
 
--- the first two stages ended as 1 and 2 do
-ranged : (c : tie.After-then) → ended (c .then .result) ≡ first-refusal (take 2 (checks (c .before .before .before .before .before .before)))
-ranged c =
-    let R = checks (c .before .before .before .before .before .before) in
-    let e : ended (c .before .before .unless .result) ≡ first-refusal (take 1 R) =
-    one-more [] refusal.Scans _ {o = none} refl (c .before .before .unless .ensures) (c .before .before .before .outside .ensures) in
-    one-more (take 1 R) refusal.Settings _ e (c .then .ensures) (c .before .outside2 .ensures)
+-- the first stage ended as 1 and 2 do
+ranged : (c : tie.After-ranges) → ended (c .ranges .result) ≡ first-refusal (take 2 (checks (c .before .before .before)))
+ranged c = c .ranges .ensures
 
--- where they passed, those after them decide
-later : (c : tie.After-enum-told) → first-refusal (checks (c .before .before .before .before .before .before .before .before)) ≡ first-refusal (drop 2 (checks (c .before .before .before .before .before .before .before .before)))
+-- where it passed, those after them decide
+later : (c : tie.After-enum-told) → first-refusal (checks (c .before .before .before .before .before)) ≡ first-refusal (drop 2 (checks (c .before .before .before .before .before)))
 later c =
-    let R = checks (c .before .before .before .before .before .before .before .before) in
+    let R = checks (c .before .before .before .before .before) in
     first-append (take 2 R) (drop 2 R) ∙ at-pass (drop 2 R) (ranged (c .before .before)) (c .enum-told .given .1)
 
--- the third stage ended as 5 does
-sized : (c : tie.After-unless2) →
-    let a = c .before .before .before .before .before .before .before .before .before .before .before .args in
-    ended (c .unless2 .result) ≡ when (lengths-out (a .scans) (a .settings) (now (a .rates)) (now (a .distortions))) refusal.Lengths
-sized c = c .unless2 .ensures ∙ ap (λ t. when t refusal.Lengths) (rw (c .before .before .count .ensures) at (c .before .wrong-lengths .ensures))
+-- the second stage ended as 5 does
+sized : (c : tie.After-unless) →
+    let a = c .before .before .before .before .before .before .before .before .args in
+    ended (c .unless .result) ≡ when (lengths-out (a .scans) (a .settings) (now (a .rates)) (now (a .distortions))) refusal.Lengths
+sized c = c .unless .ensures ∙ ap (λ t. when t refusal.Lengths) (rw (c .before .before .count .ensures) at (c .before .wrong-lengths .ensures))
 
--- where it passed, the cells decide
-judged : (c : tie.After-judge) → first-refusal (checks (c .before .before .before .before .before .before .before .before .before .before .before .before .before .before)) ≡ legality-refusal (c .judge .result)
-judged c =
-    later (c .before .before .before .before .before .before) ∙ at-pass (drop 3 (checks (c .before .before .before .before .before .before .before .before .before .before .before .before .before .before))) (sized (c .before .before .before)) (c .before .enum-told3 .given .1)
-    ∙ else-nothing _ ∙ judged-found _ _ (c .judge .ensures)
-
-outside-requires : tie.Need-outside-requires
-outside-requires c κs = search needs
-
-unless-requires : tie.Need-unless-requires
-unless-requires c κs = search needs
-
-outside-requires-2 : tie.Need-outside-requires-2
-outside-requires-2 c κs = search needs
-
-then-requires : tie.Need-then-requires
-then-requires c κs = search needs
+ranges-requires : tie.Need-ranges-requires
+ranges-requires c κs = search needs
 
 enum-told : tie.Need-enum-told
 enum-told c = search needs
@@ -70,20 +50,20 @@ enum-told-2 c = search needs
 
 returns : tie.Need-returns
 returns c =
-    let R = checks (c .before .before .before .before .before .before .before .before) in
+    let R = checks (c .before .before .before .before .before) in
     at-stop (drop 2 R) (ranged (c .before .before)) (c .enum-told2 .given .1) ∙ sym (first-append (take 2 R) (drop 2 R))
 
 count-requires : tie.Need-count-requires
 count-requires c κs =
-    let p = all-pass (take 2 (checks (c .before .before .before .before .before .before .before .before))) (passed-none (ranged (c .before .before)) (c .enum-told .given .1)) in
+    let p = all-pass (take 2 (checks (c .before .before .before .before .before))) (passed-none (ranged (c .before .before)) (c .enum-told .given .1)) in
     let n = in-range (none-when _ _ (p .0)) in
     (n .0, (n .1, in-range (none-when _ _ (p .1 .0)) .1))
 
 wrong-lengths-requires : tie.Need-wrong-lengths-requires
 wrong-lengths-requires c κs = search needs
 
-unless-requires-2 : tie.Need-unless-requires-2
-unless-requires-2 c κs = search needs
+unless-requires : tie.Need-unless-requires
+unless-requires c κs = search needs
 
 enum-told-3 : tie.Need-enum-told-3
 enum-told-3 c = search needs
@@ -92,45 +72,36 @@ enum-told-4 : tie.Need-enum-told-4
 enum-told-4 c = search needs
 
 returns-2 : tie.Need-returns-2
-returns-2 c = at-stop (drop 3 (checks (c .before .before .before .before .before .before .before .before .before .before .before .before .before))) (sized (c .before .before)) (c .enum-told4 .given .1) ∙ sym (later (c .before .before .before .before .before))
+returns-2 c =
+    at-stop (drop 3 (checks (c .before .before .before .before .before .before .before .before .before .before))) (sized (c .before .before)) (c .enum-told4 .given .1)
+    ∙ sym (later (c .before .before .before .before .before))
 
-judge-requires : tie.Need-judge-requires
-judge-requires c κs =
-    let a = c .before .before .before .before .before .before .before .before .before .before .before .before .before .args in
+check-cells-requires : tie.Need-check-cells-requires
+check-cells-requires c κs =
+    let a = c .before .before .before .before .before .before .before .before .before .before .args in
     let e = lengths-exact (a .scans) (a .settings) (now (a .rates)) (now (a .distortions)) (none-when _ _ (passed-none (sized (c .before .before)) (c .enum-told3 .given .1))) in
     e .1 ∙ sym (e .0)
 
-enum-known-verdict : tie.Need-enum-known-verdict
-enum-known-verdict c = search needs
-
-enum-told-5 : tie.Need-enum-told-5
-enum-told-5 c = search needs
-
+-- .. and where that passed, the cells do
 returns-3 : tie.Need-returns-3
-returns-3 c = sym (judged (c .before .before) ∙ ap legality-refusal (c .enum-told5 .given .1))
-
-returns-4 : tie.Need-returns-4
-returns-4 c = sym (judged (c .before .before .before) ∙ ap legality-refusal (c .before .verdict .given .1))
+returns-3 c =
+    let R = checks (c .before .before .before .before .before .before .before .before .before .before .before) in
+    sym (later (c .before .before .before .before .before .before)
+    ∙ at-pass (drop 3 R) (sized (c .before .before .before)) (c .before .enum-told3 .given .1) ∙ else-nothing _ ∙ judged-found _ _ (c .check-cells .ensures))
 
 pub early-spec : {M : Type 1} → statement M
 early-spec =
     tie.close
     (tie.spec
-    outside-requires
-    unless-requires
-    outside-requires-2
-    then-requires
+    ranges-requires
     enum-told
     enum-told-2
     returns
     count-requires
     wrong-lengths-requires
-    unless-requires-2
+    unless-requires
     enum-told-3
     enum-told-4
     returns-2
-    judge-requires
-    enum-known-verdict
-    enum-told-5
-    returns-3
-    returns-4)
+    check-cells-requires
+    returns-3)

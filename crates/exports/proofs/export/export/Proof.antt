@@ -5,7 +5,7 @@ use native.Mathlib.Omega.{arith}
 use denote.Ref.{now}
 use Rattle.checks.specs.Checks.{first-refusal}
 use Rattle.checks.proofs.StageLaws.{passed-none, stage-stops}
-use Rattle.exports.specs.Parts.{early-checks}
+use Rattle.exports.specs.Export.{early-checks}
 use Rattle.exports.proofs.EarlyLaws.{exportable}
 use Rattle.exports.proofs.ExportLaws.{refuses-check, refuses-room, gives-text}
 use borrow.Author.Needs.{needs}

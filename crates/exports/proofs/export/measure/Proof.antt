@@ -3,7 +3,7 @@ use Prim.Native.Nat.{_-_}
 use native.Mathlib.Omega.{arith}
 use lib.ListN.{length}
 use Rattle.tables.proofs.CellLaws.{cells-small}
-use Rattle.exports.proofs.TextLaws.{AtCell, at-first, at-next, at-end}
+use Rattle.exports.proofs.TextLaws.{AtCell, at-first, place-is, at-next, at-end}
 use Rattle.exports.proofs.PlaceLaws.{placed}
 use Rattle.exports.proofs.ExportLaws.{export-short}
 use Rattle.exports.proofs.export.measure.Statement.{statement}
@@ -16,7 +16,7 @@ abbrev μ-loop : tie.MeasureT-loop
 μ-loop scans settings rates distortions total₀ p₀ c₀ c-end total p c = length rates - c
 
 loop-holds : tie.Need-loop-holds Inv-loop μ-loop
-loop-holds c = at-first (c .before .before .pre)
+loop-holds c = at-first
 
 mul-cell-length : tie.Need-mul-cell-length Inv-loop μ-loop
 mul-cell-length c = omega arith
@@ -34,7 +34,7 @@ cell-length-requires : tie.Need-cell-length-requires Inv-loop μ-loop
 cell-length-requires c κs =
     let x = c .before .before .before .before .before .before .pre in
     let l = c .before .before .before .loop in
-    (placed x (l .inv .place) (omega (arith, x .rates-long)), x .legal (l .c) (omega arith))
+    (placed x (place-is (x .some-settings) (l .inv)) (omega (arith, x .rates-long)), x .legal (l .c) (omega arith))
 
 add-total : tie.Need-add-total Inv-loop μ-loop
 add-total c =
@@ -45,7 +45,7 @@ add-total c =
 next-requires : tie.Need-next-requires Inv-loop μ-loop
 next-requires c κs =
     let x = c .before .before .before .before .before .before .before .pre in
-    let h = placed x (c .before .before .before .before .loop .inv .place) (omega (arith, x .rates-long)) in
+    let h = placed x (place-is (x .some-settings) (c .before .before .before .before .loop .inv)) (omega (arith, x .rates-long)) in
     omega (arith, h)
 
 add-c : tie.Need-add-c Inv-loop μ-loop

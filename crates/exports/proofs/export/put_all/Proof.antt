@@ -6,7 +6,7 @@ use lib.ListN.{length, take}
 use lib.Seq.{sets, take-all}
 use denote.Ref.{now}
 use Rattle.exports.specs.Export.{export-text}
-use Rattle.exports.proofs.TextLaws.{AtCell, at-first, at-next, put-next, at-end}
+use Rattle.exports.proofs.TextLaws.{AtCell, at-first, place-is, at-next, put-next, at-end}
 use Rattle.exports.proofs.PlaceLaws.{placed}
 use Rattle.exports.proofs.export.put_all.Statement.{statement}
 use Rattle.exports.proofs.export.put_all.Tie as tie
@@ -19,7 +19,7 @@ abbrev μ-loop : tie.MeasureT-loop
 μ-loop scans settings rates distortions text₀ at₀ p₀ c₀ c-end text at p c = length rates - c
 
 loop-holds : tie.Need-loop-holds Inv-loop μ-loop
-loop-holds c = (at-first (c .before .before .before .pre .0), (refl, refl))
+loop-holds c = (at-first, (refl, refl))
 
 mul-put-cell : tie.Need-mul-put-cell Inv-loop μ-loop
 mul-put-cell c = omega arith
@@ -39,12 +39,12 @@ put-cell-requires c κs =
     let x = s .pre .0 in
     let l = c .before .before .before .before .loop in
     let m = at-next (l .inv .0) (omega (arith, x .rates-long)) in
-    ((placed x (l .inv .0 .place) (omega (arith, x .rates-long)), x .legal (l .c) (omega arith)), omega (arith, m .inside, s .pre .1, l .inv .1 .0))
+    ((placed x (place-is (x .some-settings) (l .inv .0)) (omega (arith, x .rates-long)), x .legal (l .c) (omega arith)), omega (arith, m .inside, s .pre .1, l .inv .1 .0))
 
 next-requires : tie.Need-next-requires Inv-loop μ-loop
 next-requires c κs =
     let x = c .before .before .before .before .before .before .before .before .before .before .before .pre .0 in
-    let h = placed x (c .before .before .before .before .before .before .before .loop .inv .0 .place) (omega (arith, x .rates-long)) in
+    let h = placed x (place-is (x .some-settings) (c .before .before .before .before .before .before .before .loop .inv .0)) (omega (arith, x .rates-long)) in
     omega (arith, h)
 
 add-c : tie.Need-add-c Inv-loop μ-loop

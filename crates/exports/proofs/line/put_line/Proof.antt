@@ -5,7 +5,8 @@ use native.Mathlib.Omega.{arith}
 use lib.ListN.{length, length-set}
 use Rattle.exports.specs.Export.{decimal, previous-field, export-line}
 use Rattle.exports.proofs.LineLaws.{line-long}
-use Rattle.exports.proofs.PutLaws.{field-put, next, line-put}
+use Rattle.laws.proofs.PutLaws.{next}
+use Rattle.exports.proofs.PutLaws.{field-put, line-put}
 use Rattle.exports.proofs.line.put_line.Statement.{statement}
 use Rattle.exports.proofs.line.put_line.Tie as tie
 

@@ -15,8 +15,8 @@ returns-2 c =
     let a = c .before .before .before .before .args in
     to-scan-one (a .settings) (a .p) (c .before .before .if1 .left) (c .if2 .taken)
 
-add-before : tie.Need-add-before
-add-before c = search needs
+add-previous : tie.Need-add-previous
+add-previous c = search needs
 
 returns-3 : tie.Need-returns-3
 returns-3 c =
@@ -33,4 +33,4 @@ returns-4 c =
 
 pub next-spec : {M : Type 1} → statement M
 next-spec =
-    tie.close (tie.spec add-setting returns returns-2 add-before returns-3 add-t6 returns-4)
+    tie.close (tie.spec add-setting returns returns-2 add-previous returns-3 add-t6 returns-4)

@@ -1,39 +1,24 @@
 -- `imports::import::early` meets its contract: 1, 2 and 6. Assumes nothing.
-use mathlib.Core.Path.{_≡_, refl, ap}
-use mathlib.Core.Option.{none}
+use mathlib.Core.Path.{_≡_, ap}
 use mathlib.Core.List.{[], _∷_}
 use borrow.Author.Needs.{needs}
 use Rattle.tables.specs.declared.refusal.Refusal.the-variants as refusal
 use Rattle.checks.specs.Checks.{when, first-refusal}
 use Rattle.checks.specs.Planning.{scans-out, settings-out}
 use Rattle.checks.specs.Stages.{ended}
-use Rattle.checks.proofs.CheckLaws.{one-more}
 use Rattle.checks.proofs.StageLaws.{passed-none}
 use Rattle.imports.proofs.ImportLaws.{ranges-stop, room-decides, short-is, in-both}
 use Rattle.imports.proofs.import.early.Statement.{statement}
 use Rattle.imports.proofs.import.early.Tie as tie
 
 -- the first two ended as their checks do
-asked : (c : tie.After-then) →
-    let a = c .before .before .before .before .args in
-    ended (c .then .result) ≡ first-refusal (when (scans-out (a .scans)) refusal.Scans ∷ when (settings-out (a .settings)) refusal.Settings ∷ [])
-asked c =
-    let a = c .before .before .before .before .args in
-    let e1 : ended (c .before .before .unless .result) ≡ first-refusal (when (scans-out (a .scans)) refusal.Scans ∷ []) =
-    one-more [] refusal.Scans _ {o = none} refl (c .before .before .unless .ensures) (c .before .before .before .outside .ensures) in
-    one-more (when (scans-out (a .scans)) refusal.Scans ∷ []) refusal.Settings _ e1 (c .then .ensures) (c .before .outside2 .ensures)
+asked : (c : tie.After-ranges) →
+    let a = c .before .args in
+    ended (c .ranges .result) ≡ first-refusal (when (scans-out (a .scans)) refusal.Scans ∷ when (settings-out (a .settings)) refusal.Settings ∷ [])
+asked c = c .ranges .ensures
 
-outside-requires : tie.Need-outside-requires
-outside-requires c κs = search needs
-
-unless-requires : tie.Need-unless-requires
-unless-requires c κs = search needs
-
-outside-requires-2 : tie.Need-outside-requires-2
-outside-requires-2 c κs = search needs
-
-then-requires : tie.Need-then-requires
-then-requires c κs = search needs
+ranges-requires : tie.Need-ranges-requires
+ranges-requires c κs = search needs
 
 enum-told : tie.Need-enum-told
 enum-told c = search needs
@@ -50,27 +35,24 @@ count-requires c κs = let r = in-both _ _ (passed-none (asked (c .before .befor
 too-short-requires : tie.Need-too-short-requires
 too-short-requires c κs = search needs
 
-unless-requires-2 : tie.Need-unless-requires-2
-unless-requires-2 c κs = search needs
+unless-requires : tie.Need-unless-requires
+unless-requires c κs = search needs
 
 returns-2 : tie.Need-returns-2
 returns-2 c =
-    let a = c .before .before .before .before .before .before .before .before .before .args in
+    let a = c .before .before .before .before .before .before .args in
     room-decides _ _ _ _ _ (passed-none (asked (c .before .before .before .before .before)) (c .before .before .before .enum-told .given .1))
-    (short-is (a .scans) (a .settings) (a .rates) (a .distortions) (a .scratch) (c .unless2 .ensures) (c .before .too-short .ensures) (c .before .before .count .ensures))
+    (short-is (a .scans) (a .settings) (a .rates) (a .distortions) (a .scratch) (c .unless .ensures) (c .before .too-short .ensures) (c .before .before .count .ensures))
 
 pub early-spec : {M : Type 1} → statement M
 early-spec =
     tie.close
     (tie.spec
-    outside-requires
-    unless-requires
-    outside-requires-2
-    then-requires
+    ranges-requires
     enum-told
     enum-told-2
     returns
     count-requires
     too-short-requires
-    unless-requires-2
+    unless-requires
     returns-2)

@@ -9,7 +9,7 @@ use Rattle.checks.specs.Stages.{ended}
 use Rattle.checks.proofs.StageLaws.{passed-none}
 use Rattle.lines.specs.Text.{lines}
 use Rattle.imports.specs.Import.{early-import, first-fault}
-use Rattle.imports.proofs.ImportLaws.{admitted, ended-early, ended-judged, ended-written}
+use Rattle.imports.proofs.ImportLaws.{import-admitted, ended-early, ended-judged, ended-written}
 use Rattle.imports.proofs.import.import.Statement.{statement}
 use Rattle.imports.proofs.import.import.Tie as tie
 
@@ -37,7 +37,7 @@ returns c =
     (e .answer, (e .rates-are, (e .distortions-are, e .scratch-is)))
 
 judged-requires : tie.Need-judged-requires
-judged-requires c κs = let h = admitted _ _ _ _ _ (checked (c .before)) in (h .some-scans, (h .scans, (h .settings, h .scratch-long)))
+judged-requires c κs = let h = import-admitted _ _ _ _ _ (checked (c .before)) in (h .some-scans, (h .scans, (h .settings, h .scratch-long)))
 
 enum-told-3 : tie.Need-enum-told-3
 enum-told-3 c = search needs
@@ -56,7 +56,7 @@ returns-2 c =
 
 written-requires : tie.Need-written-requires
 written-requires c κs =
-    let h = admitted _ _ _ _ _ (checked (c .before .before .before .before .before .before .before .before)) in
+    let h = import-admitted _ _ _ _ _ (checked (c .before .before .before .before .before .before .before .before)) in
     ((h .some-scans, (h .scans, (h .settings, (h .rates-long, h .distortions-long)))), faultless (c .before .before))
 
 same-length-2 : tie.Need-same-length-2

@@ -7,7 +7,7 @@ use borrow.Author.Needs.{needs}
 use Rattle.tables.specs.Limits.{forbidden}
 use Rattle.tables.specs.Tables.{cells}
 use Rattle.lines.specs.Text.{lines}
-use Rattle.imports.specs.Import.{filled, rates-from, distortions-from}
+use Rattle.imports.specs.Import.{filled, table-from, rate-of, distortion-of}
 use Rattle.imports.proofs.ImportLaws.{length-filled}
 use Rattle.imports.proofs.import.written.Statement.{statement}
 use Rattle.imports.proofs.import.written.Tie as tie
@@ -48,8 +48,8 @@ returns : tie.Need-returns
 returns c =
     let a = c .before .before .before .before .before .before .before .before .before .before .before .before .before .before .before .before .before .before .before .args in
     let t = lines (a .text .now) in (
-      c .before .before .before .before .write .ensures .0 ∙ ap (λ l. rates-from (a .settings) l t) (rates-filled (c .before .before .before .before .before .before .before .before .before .before .before .before .before)),
-      c .before .before .before .before .write .ensures .1 ∙ ap (λ l. distortions-from (a .settings) l t) (distortions-filled (c .before .before .before .before .before .before .before .before .before)),
+      c .before .before .before .before .write .ensures .0 ∙ ap (λ l. table-from rate-of (a .settings) l t) (rates-filled (c .before .before .before .before .before .before .before .before .before .before .before .before .before)),
+      c .before .before .before .before .write .ensures .1 ∙ ap (λ l. table-from distortion-of (a .settings) l t) (distortions-filled (c .before .before .before .before .before .before .before .before .before)),
     )
 
 pub written-spec : {M : Type 1} → statement M

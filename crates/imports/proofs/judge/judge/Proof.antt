@@ -9,7 +9,7 @@ use borrow.Author.Needs.{needs}
 use Rattle.checks.specs.Stages.{ended}
 use Rattle.tables.specs.Tables.{cells}
 use Rattle.lines.specs.Said.{says-of}
-use Rattle.imports.specs.Parts.{Judged}
+use Rattle.imports.specs.Parts.{LineJudged}
 use Rattle.imports.proofs.JudgeLaws.{JudgedSoFar, LineAt, judging-starts, judging-stops, judging-goes-on, judging-ends, line-at, line-there, kept-on}
 use Rattle.imports.proofs.judge.judge.Statement.{statement}
 use Rattle.imports.proofs.judge.judge.Tie as tie
@@ -23,7 +23,7 @@ abbrev μ-loop : tie.MeasureT-loop
 -- the line that was judged is the one that starts here
 this : (c : tie.After-judge-line Inv-loop μ-loop) →
     let a = c .before .before .before .before .before .before .before .args in
-    Judged (a .scans) (a .settings) (c .before .before .before .before .loop .k) (cells (a .scans) (a .settings)) (says-of (slice (c .before .before .before .before .loop .at) (c .before .before .line-at .result .end) (a .text .now))) (c .before .before .before .before .loop .scratch)
+    LineJudged (a .scans) (a .settings) (c .before .before .before .before .loop .k) (cells (a .scans) (a .settings)) (says-of (slice (c .before .before .before .before .loop .at) (c .before .before .line-at .result .end) (a .text .now))) (c .before .before .before .before .loop .scratch)
     (c .judge-line .last .1 .1 .1 .1 .0) (ended (c .judge-line .result))
 this c = rw (← c .before .before .line-at .ensures .1) (c .judge-line .ensures)
 
@@ -58,9 +58,7 @@ behind-requires c κs = c .before .before .before .before .before .before .line-
 
 -- the next line starts there
 next : (c : tie.After-behind Inv-loop μ-loop) → LineAt (c .before .before .before .before .before .before .before .before .before .before .before .before .args .text .now) (c .before .before .before .before .before .before .before .before .before .loop .at) (c .before .before .before .before .before .before .before .line-at .result .end) (c .behind .result)
-next c =
-    let e = c .behind .ensures in
-    line-at (c .before .before .before .before .before .before .before .before .loop-test .taken) (c .before .before .before .before .before .before .before .line-at .ensures .0) (e .0) (e .1 .0) (e .1 .1) (e .1 .2)
+next c = line-at (c .before .before .before .before .before .before .before .before .loop-test .taken) (c .before .before .before .before .before .before .before .line-at .ensures .0) (c .behind .ensures)
 
 add-k : tie.Need-add-k Inv-loop μ-loop
 add-k c = let h = c .before .before .before .before .before .before .before .before .before .loop .inv .count in let t = c .before .before .before .before .before .before .before .before .loop-test .taken in search needs

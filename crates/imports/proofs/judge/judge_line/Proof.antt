@@ -7,7 +7,7 @@ use lib.ListN.{length, getD, set}
 use borrow.Author.Needs.{needs}
 use Rattle.lines.specs.Parts.{line-said}
 use Rattle.imports.specs.Import.{out-of-range, cell-of}
-use Rattle.imports.proofs.JudgeLaws.{in-range, cell-there, judged-malformed, judged-out, judged-twice, judged-good}
+use Rattle.imports.proofs.JudgeLaws.{numbers-in-range, cell-there, judged-malformed, judged-out, judged-twice, judged-good}
 use Rattle.imports.proofs.judge.judge_line.Statement.{statement}
 use Rattle.imports.proofs.judge.judge_line.Tie as tie
 
@@ -20,21 +20,21 @@ enum-told c = search needs
 returns : tie.Need-returns
 returns c = let a = c .before .before .before .args in judged-malformed (a .scans) (a .settings) (a .k) _ (ap line-said (c .enum-told .given .1))
 
-outside-requires : tie.Need-outside-requires
-outside-requires c κs = search needs
+out-of-range-requires : tie.Need-out-of-range-requires
+out-of-range-requires c κs = search needs
 
 returns-2 : tie.Need-returns-2
 returns-2 c =
     let a = c .before .before .before .before .before .before .args in
-    judged-out (a .scans) (a .settings) (a .k) _ (ap line-said (c .before .before .before .line .given .1)) (sym (c .before .outside .ensures) ∙ c .if1 .taken)
+    judged-out (a .scans) (a .settings) (a .k) _ (ap line-said (c .before .before .before .line .given .1)) (sym (c .before .out-of-range .ensures) ∙ c .if1 .taken)
 
 -- the numbers are in range
 inside : (c : tie.Else1) → out-of-range (c .before .before .before .before .before .before .args .scans) (c .before .before .before .before .before .before .args .settings) (c .before .before .before .line .given .0 .0) ≡ false
-inside c = sym (c .before .outside .ensures) ∙ c .if1 .left
+inside c = sym (c .before .out-of-range .ensures) ∙ c .if1 .left
 
 number-requires : tie.Need-number-requires
 number-requires c κs =
-    let r = in-range (inside c) in
+    let r = numbers-in-range (inside c) in
     let p = c .before .before .before .before .before .before .pre in
     ((p .1 .1 .0, omega (arith, r .scan, p .1 .0)), (r .previous, r .setting))
 
@@ -43,7 +43,7 @@ at-cell : (c : tie.After-number) → let a = c .before .before .before .before .
 at-cell c = c .number .ensures
 
 cell-in : (c : tie.After-number) → c .number .result < length (c .before .before .before .before .before .before .before .args .scratch .now)
-cell-in c = omega (arith, at-cell c, cell-there (in-range (inside (c .before))), c .before .before .before .before .before .before .before .pre .1 .1 .1)
+cell-in c = omega (arith, at-cell c, cell-there (numbers-in-range (inside (c .before))), c .before .before .before .before .before .before .before .pre .1 .1 .1)
 
 slice-read-byte-to-number : tie.Need-slice-read-byte-to-number
 slice-read-byte-to-number c = cell-in (c .before)
@@ -79,7 +79,7 @@ judge-line-spec =
     enum-known-line
     enum-told
     returns
-    outside-requires
+    out-of-range-requires
     returns-2
     number-requires
     slice-read-byte-to-number

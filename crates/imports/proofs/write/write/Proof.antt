@@ -3,7 +3,7 @@ use mathlib.Core.Path.{ap, _∙_}
 use Prim.Native.Nat.{_-_}
 use native.Mathlib.Omega.{arith}
 use lib.ListN.{length}
-use Rattle.imports.specs.Import.{fault, with-rate, with-distortion}
+use Rattle.imports.specs.Import.{fault, with-said, rate-of, distortion-of}
 use Rattle.imports.proofs.JudgeLaws.{LineAt, line-at, line-there}
 use Rattle.imports.proofs.WriteLaws.{WrittenSoFar, writing-starts, no-fault, writing-goes-on, writing-ends}
 use Rattle.imports.proofs.write.write.Statement.{statement}
@@ -38,9 +38,7 @@ behind-requires c κs = c .before .before .before .before .before .before .befor
 
 -- the next line starts there
 next : (c : tie.After-behind Inv-loop μ-loop) → LineAt (c .before .before .before .before .before .before .before .before .before .before .before .before .before .before .args .text .now) (c .before .before .before .before .before .before .before .before .before .before .loop .at) (c .before .before .before .before .before .before .before .before .line-at .result .end) (c .behind .result)
-next c =
-    let e = c .behind .ensures in
-    line-at (c .before .before .before .before .before .before .before .before .before .loop-test .taken) (c .before .before .before .before .before .before .before .before .line-at .ensures .0) (e .0) (e .1 .0) (e .1 .1) (e .1 .2)
+next c = line-at (c .before .before .before .before .before .before .before .before .before .loop-test .taken) (c .before .before .before .before .before .before .before .before .line-at .ensures .0) (c .behind .ensures)
 
 loop-less : tie.Need-loop-less Inv-loop μ-loop
 loop-less c = omega (arith, next c .further, next c .inside)
@@ -49,8 +47,8 @@ loop-again : tie.Need-loop-again Inv-loop μ-loop
 loop-again c =
     let a = c .before .before .before .before .before .before .before .before .before .before .before .before .before .before .args in
     writing-goes-on (c .before .before .before .before .before .before .before .before .before .before .loop .inv) (next c)
-    (c .before .before .before .before .before .write-line .ensures .0 ∙ ap (with-rate (a .settings) (c .before .before .before .before .before .before .before .before .before .before .loop .rates)) (c .before .before .before .before .before .before .before .before .line-at .ensures .1))
-    (c .before .before .before .before .before .write-line .ensures .1 ∙ ap (with-distortion (a .settings) (c .before .before .before .before .before .before .before .before .before .before .loop .distortions)) (c .before .before .before .before .before .before .before .before .line-at .ensures .1))
+    (c .before .before .before .before .before .write-line .ensures .0 ∙ ap (with-said rate-of (a .settings) (c .before .before .before .before .before .before .before .before .before .before .loop .rates)) (c .before .before .before .before .before .before .before .before .line-at .ensures .1))
+    (c .before .before .before .before .before .write-line .ensures .1 ∙ ap (with-said distortion-of (a .settings) (c .before .before .before .before .before .before .before .before .before .before .loop .distortions)) (c .before .before .before .before .before .before .before .before .line-at .ensures .1))
 
 same-length : tie.Need-same-length Inv-loop μ-loop
 same-length c = c .before .loop .inv .rates-long

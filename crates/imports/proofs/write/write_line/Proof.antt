@@ -6,9 +6,9 @@ use lib.ListN.{length}
 use borrow.Author.Needs.{needs}
 use Rattle.tables.proofs.CellLaws.{cells-small}
 use Rattle.lines.specs.Parts.{line-said}
-use Rattle.imports.specs.Import.{with-rate, with-distortion}
+use Rattle.imports.specs.Import.{with-said, rate-of, distortion-of}
 use Rattle.imports.proofs.JudgeLaws.{InRange, cell-there}
-use Rattle.imports.proofs.WriteLaws.{good-in-range, rate-written, distortion-written}
+use Rattle.imports.proofs.WriteLaws.{good-in-range, cell-written}
 use Rattle.imports.proofs.write.write_line.Statement.{statement}
 use Rattle.imports.proofs.write.write_line.Tie as tie
 
@@ -26,7 +26,7 @@ returns : tie.Need-returns
 returns c =
     let a = c .before .before .before .before .args in
     let e = c .enum-told .given .1 in
-    (sym (ap (λ l. with-rate (a .settings) (a .rates .now) (line-said l)) e), sym (ap (λ l. with-distortion (a .settings) (a .distortions .now) (line-said l)) e))
+    (sym (ap (λ l. with-said rate-of (a .settings) (a .rates .now) (line-said l)) e), sym (ap (λ l. with-said distortion-of (a .settings) (a .distortions .now) (line-said l)) e))
 
 number-requires : tie.Need-number-requires
 number-requires c κs =
@@ -70,7 +70,7 @@ returns-2 c =
     let a = c .before .before .before .before .before .before .before .before .args in
     let e = ap line-said (c .before .before .before .before .line .given .1) in
     let n = c .before .before .number .ensures in
-    (rate-written (a .settings) (a .rates .now) e n (c .before .number-to-cell .ensures), distortion-written (a .settings) (a .distortions .now) e n (c .number-to-cell2 .ensures))
+    (cell-written rate-of (a .settings) (a .rates .now) e n (c .before .number-to-cell .ensures), cell-written distortion-of (a .settings) (a .distortions .now) e n (c .number-to-cell2 .ensures))
 
 pub write-line-spec : {M : Type 1} → statement M
 write-line-spec =

@@ -7,7 +7,7 @@ use native.Mathlib.Omega.{arith}
 use borrow.Author.Needs.{needs}
 use lib.ListN.{getD}
 use borrow.Author.Tests.{not-true, not-false}
-use Rattle.lines.specs.Text.{digit}
+use Rattle.reading.specs.Text.{digit}
 use Rattle.lines.proofs.ContentLaws.{number-none, number-long, DigitsSoFar, digits-start, digits-go-on, digits-stop, digits-end, most, most-seven}
 use Rattle.lines.proofs.field.number_of.Statement.{statement}
 use Rattle.lines.proofs.field.number_of.Tie as tie

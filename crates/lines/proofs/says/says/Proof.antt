@@ -24,11 +24,11 @@ returns c = other-says _ (c .before .before .part-fields .ensures .not-five (not
 field-requires : tie.Need-field-requires
 field-requires c κs = let o = five c .order in (o .0, omega (arith, o, c .before .before .before .before .pre .1))
 
-add-before : tie.Need-add-before
-add-before c = omega (arith, five (c .before .before) .order, c .before .before .before .before .before .before .pre .1)
+add-previous : tie.Need-add-previous
+add-previous c = omega (arith, five (c .before .before) .order, c .before .before .before .before .before .before .pre .1)
 
-before-requires : tie.Need-before-requires
-before-requires c κs = let o = five (c .before .before) .order in (omega (arith, o), omega (arith, o, c .before .before .before .before .before .before .pre .1))
+previous-requires : tie.Need-previous-requires
+previous-requires c κs = let o = five (c .before .before) .order in (omega (arith, o), omega (arith, o, c .before .before .before .before .before .before .pre .1))
 
 add-field : tie.Need-add-field
 add-field c = omega (arith, five (c .before .before .before .before) .order, c .before .before .before .before .before .before .before .before .pre .1)
@@ -59,7 +59,7 @@ returns-2 c =
     five-read (slice (a .from) (a .end) t) (slice (a .from) (e .first) t) (slice (suc (e .first)) (e .second) t) (slice (suc (e .second)) (e .third) t)
     (slice (suc (e .third)) (e .fourth) t) (slice (suc (e .fourth)) (a .end) t) (five (c .before .before .before .before .before .before .before .before .before .before) .fields-are)
     (c .before .before .before .before .before .before .before .before .before .field .ensures)
-    (rw add-one at (c .before .before .before .before .before .before .before .before2 .ensures))
+    (rw add-one at (c .before .before .before .before .before .before .before .previous .ensures))
     (rw add-one at (c .before .before .before .before .before .field2 .ensures))
     (rw add-one at (c .before .before .before .field3 .ensures))
     (rw add-one at (c .before .field4 .ensures))
@@ -72,8 +72,8 @@ says-spec =
     part-fields-requires
     returns
     field-requires
-    add-before
-    before-requires
+    add-previous
+    previous-requires
     add-field
     field-requires-2
     add-field-2

@@ -7,7 +7,7 @@ use native.Mathlib.Omega.{arith}
 use borrow.Author.Needs.{needs}
 use borrow.Author.Tests.{not-false}
 use lib.ListN.{getD}
-use Rattle.lines.specs.Text.{digit}
+use Rattle.reading.specs.Text.{digit}
 use Rattle.plain.proofs.DigitLaws.{Reading, reading-starts, reading-goes-on, reading-small, reading-ends}
 use Rattle.plain.proofs.digits.digits_at.Statement.{statement}
 use Rattle.plain.proofs.digits.digits_at.Tie as tie

@@ -1,6 +1,6 @@
 -- `printing::line::put_average` meets its contract: part after part. Assumes nothing.
 use native.Mathlib.Omega.{arith}
-use Rattle.printing.proofs.PutLaws.{next}
+use Rattle.laws.proofs.PutLaws.{next}
 use borrow.Author.Needs.{needs}
 use Rattle.printing.proofs.line.put_average.Statement.{statement}
 use Rattle.printing.proofs.line.put_average.Tie as tie

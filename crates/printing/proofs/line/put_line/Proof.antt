@@ -2,7 +2,7 @@
 use native.Mathlib.Omega.{arith}
 use denote.Ref.{now}
 use Rattle.printing.specs.Lines.{line, line-end}
-use Rattle.printing.proofs.PutLaws.{put-so, next}
+use Rattle.laws.proofs.PutLaws.{put-so, next}
 use borrow.Author.Needs.{needs}
 use Rattle.printing.proofs.line.put_line.Statement.{statement}
 use Rattle.printing.proofs.line.put_line.Tie as tie

@@ -1,7 +1,7 @@
 -- `printing::line::put_minmax` meets its contract: part after part. Assumes nothing.
 use native.Mathlib.Omega.{arith}
 use Rattle.printing.proofs.DecimalLaws.{length-decimal}
-use Rattle.printing.proofs.PutLaws.{next}
+use Rattle.laws.proofs.PutLaws.{next}
 use borrow.Author.Needs.{needs}
 use Rattle.printing.proofs.line.put_minmax.Statement.{statement}
 use Rattle.printing.proofs.line.put_minmax.Tie as tie

@@ -3,7 +3,7 @@ use native.Mathlib.Omega.{arith}
 use mathlib.Core.List.{[], _∷_, append-assoc}
 use Rattle.printing.specs.Lines.{decimal, spaced}
 use Rattle.printing.proofs.DecimalLaws.{length-decimal}
-use Rattle.printing.proofs.PutLaws.{put-so, next, same-text}
+use Rattle.laws.proofs.PutLaws.{put-so, next, same-text}
 use borrow.Author.Needs.{needs}
 use Rattle.printing.proofs.line.put_ratio.Statement.{statement}
 use Rattle.printing.proofs.line.put_ratio.Tie as tie

@@ -1,6 +1,6 @@
 -- `printing::line::put_sums` meets its contract: the rate, and the distortion behind it. Assumes nothing.
 use native.Mathlib.Omega.{arith}
-use Rattle.printing.proofs.PutLaws.{next}
+use Rattle.laws.proofs.PutLaws.{next}
 use borrow.Author.Needs.{needs}
 use Rattle.printing.proofs.line.put_sums.Statement.{statement}
 use Rattle.printing.proofs.line.put_sums.Tie as tie

@@ -3,7 +3,7 @@ use native.Mathlib.Omega.{arith}
 use mathlib.Core.List.{[], _∷_}
 use denote.Ref.{now}
 use Rattle.printing.proofs.DecimalLaws.{length-decimal}
-use Rattle.printing.proofs.PutLaws.{put-so, next}
+use Rattle.laws.proofs.PutLaws.{put-so, next}
 use borrow.Author.Needs.{needs}
 use Rattle.printing.proofs.put.put_named.Statement.{statement}
 use Rattle.printing.proofs.put.put_named.Tie as tie

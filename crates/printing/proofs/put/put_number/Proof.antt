@@ -5,7 +5,7 @@ use borrow.Author.Needs.{needs}
 use lib.ListN.{length, take}
 use Rattle.printing.specs.Lines.{decimal}
 use Rattle.printing.proofs.DecimalLaws.{digits-decimal}
-use Rattle.printing.proofs.PutLaws.{put-so, same-text}
+use Rattle.laws.proofs.PutLaws.{put-so, same-text}
 use Rattle.printing.proofs.put.put_number.Statement.{statement}
 use Rattle.printing.proofs.put.put_number.Tie as tie
 use Rattle.printing.proofs.put.put_number.Reads as reads

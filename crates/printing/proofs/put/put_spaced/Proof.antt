@@ -1,6 +1,6 @@
 -- `printing::put::put_spaced` meets its contract: a space, and the digits behind it. Assumes nothing.
 use mathlib.Core.List.{[], _∷_}
-use Rattle.printing.proofs.PutLaws.{put-so, next}
+use Rattle.laws.proofs.PutLaws.{put-so, next}
 use borrow.Author.Needs.{needs}
 use Rattle.printing.proofs.put.put_spaced.Statement.{statement}
 use Rattle.printing.proofs.put.put_spaced.Tie as tie

@@ -1,6 +1,6 @@
 -- `printing::refusal::put_refusal` meets its contract: the number, and for 7 the cell. Assumes nothing.
 use native.Mathlib.Omega.{arith}
-use Rattle.printing.proofs.PutLaws.{next, same-text}
+use Rattle.laws.proofs.PutLaws.{next, same-text}
 use Rattle.printing.proofs.TextLaws.{refusal-cell, refusal-plain}
 use borrow.Author.Needs.{needs}
 use Rattle.printing.proofs.refusal.put_refusal.Statement.{statement}

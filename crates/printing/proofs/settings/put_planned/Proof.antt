@@ -1,7 +1,7 @@
 -- `printing::settings::put_planned` meets its contract: the word, and the settings behind it. Assumes nothing.
 use native.Mathlib.Omega.{arith}
 use Rattle.printing.specs.Lines.{spaced, plan}
-use Rattle.printing.proofs.PutLaws.{put-so, next}
+use Rattle.laws.proofs.PutLaws.{put-so, next}
 use borrow.Author.Needs.{needs}
 use Rattle.printing.proofs.settings.put_planned.Statement.{statement}
 use Rattle.printing.proofs.settings.put_planned.Tie as tie

@@ -8,9 +8,9 @@ use lib.ListN.{length, take}
 use lib.Seq.{take-length}
 use denote.Ref.{now}
 use Rattle.printing.specs.Lines.{decimal, spaced, numbered}
-use Rattle.printing.specs.Put.{Put}
+use Rattle.laws.specs.Put.{Put}
 use Rattle.printing.proofs.DecimalLaws.{length-byte}
-use Rattle.printing.proofs.PutLaws.{next, same-text}
+use Rattle.laws.proofs.PutLaws.{next, same-text}
 use Rattle.printing.proofs.TextLaws.{numbered-more}
 use Rattle.printing.proofs.settings.put_settings.Statement.{statement}
 use Rattle.printing.proofs.settings.put_settings.Tie as tie

@@ -1,4 +1,4 @@
--- `lines::says::before` meets its contract: an empty field at scan 0 and only there. Assumes nothing.
+-- `lines::says::previous` meets its contract: an empty field at scan 0 and only there. Assumes nothing.
 use mathlib.Core.Path.{_≡_, sym, ap, _∙_}
 use mathlib.Core.Bool.{Bool, cond}
 use mathlib.Core.Option.{some, none}
@@ -12,8 +12,8 @@ use borrow.Author.Tests.{eq-eqb, ne-eqb}
 use Rattle.lines.specs.Text.{content, number}
 use Rattle.lines.specs.Parts.{number-said, previous-after}
 use Rattle.lines.proofs.SaidLaws.{previous-zero, previous-later}
-use Rattle.lines.proofs.says.before.Statement.{statement}
-use Rattle.lines.proofs.says.before.Tie as tie
+use Rattle.lines.proofs.says.previous.Statement.{statement}
+use Rattle.lines.proofs.says.previous.Tie as tie
 
 -- how long the content is
 long : (c : tie.After-inside) → let a = c .before .before .before .before .before .args in length (content (slice (a .from) (a .to) (now (a .text)))) ≡ c .inside .result .to - c .inside .result .from
@@ -61,8 +61,8 @@ returns-4 c =
     let x = content (slice (a .from) (a .to) (now (a .text))) in
     c .number-of .ensures ∙ ap number (c .before .before .inside .ensures .1 .1) ∙ sym (by-scan (c .before .before .before .before) x ∙ previous-later _ x (λ e. let l = c .before .if1 .left in omega arith))
 
-pub before-spec : {M : Type 1} → statement M
-before-spec =
+pub previous-spec : {M : Type 1} → statement M
+previous-spec =
     tie.close
     (tie.spec
     enum-known-first

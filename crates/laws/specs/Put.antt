@@ -1,4 +1,4 @@
--- What the functions behind the lines leave in the lent buffer. Assumes nothing.
+-- A text that was put into a lent buffer: what the functions that write texts leave each other. Assumes nothing.
 use mathlib.Core.Path.{_≡_}
 use mathlib.Core.List.{List}
 use Prim.Native.Nat.{ℕ, _+_}

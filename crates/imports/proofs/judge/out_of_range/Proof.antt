@@ -1,12 +1,12 @@
--- `imports::judge::outside` meets its contract: each number in turn. Assumes nothing.
+-- `imports::judge::out_of_range` meets its contract: each number in turn. Assumes nothing.
 use mathlib.Core.Path.{ap, _∙_}
 use Prim.Native.Nat.{ℕ}
 use native.Mathlib.Omega.{arith}
 use lib.Dec.{ltb}
 use borrow.Author.Needs.{needs}
 use Rattle.imports.proofs.RangeLaws.{scan-out, previous-out, setting-out, rate-out, by-distortion}
-use Rattle.imports.proofs.judge.outside.Statement.{statement}
-use Rattle.imports.proofs.judge.outside.Tie as tie
+use Rattle.imports.proofs.judge.out_of_range.Statement.{statement}
+use Rattle.imports.proofs.judge.out_of_range.Tie as tie
 
 returns : tie.Need-returns
 returns c = let a = c .before .before .args in scan-out (a .scans) (a .settings) (a .e) (c .if1 .taken)
@@ -34,8 +34,8 @@ returns-5 c =
     ap (λ (x : ℕ). ltb x (a .e .distortion)) (c .before .cell-to-number2 .ensures .0)
     ∙ by-distortion (a .scans) (a .settings) (a .e) (c .before .before .before .before .before .before .before .before .before .if1 .left) (c .before .before .before .before .before .before .before .if2 .left) (c .before .before .before .before .before .if3 .left) (omega (arith, c .before .before .before .before .cell-to-number .ensures .0, c .before .before .if4 .left))
 
-pub outside-spec : {M : Type 1} → statement M
-outside-spec =
+pub out-of-range-spec : {M : Type 1} → statement M
+out-of-range-spec =
     tie.close
     (tie.spec
     returns

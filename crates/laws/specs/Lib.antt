@@ -1,0 +1,2 @@
+-- A text in a lent buffer.
+pub mod Put
