@@ -1,6 +1,7 @@
 // Import: the checks, the first walk, and where no line has a fault the second.
 use crate::judge::judge;
 use crate::write::write;
+use bytes::numbers::put_zeros;
 use checks::range::ranges;
 use checks::stage::Stage;
 use checks::stage::unless;
@@ -54,9 +55,7 @@ fn clear(scratch: &mut [u8], k: usize)
     requires { ⌜ k ≤ length (now scratch) ⌝ }
     ensures { λ _. ⌜ now (scratch .exit) ≡ filled k 0 (now (scratch .entry)) ⌝ }
 {
-    for i in 0..k {
-        scratch[i] = 0;
-    }
+    put_zeros(scratch, 0, k);
 }
 
 // The first k cells become x.

@@ -8,8 +8,8 @@ use lib.ListN.{length, getD}
 use Rattle.lines.specs.declared.says.Entry.{Entry}
 use Rattle.lines.specs.Text.{fields, content, number}
 
--- "The previous field is empty for scan 0 and only there." Where there is none, 0 stands in its place: it is
--- below every Q, and the cell of scan 0 does not depend on it.
+-- "The previous field is empty for scan 0 and only there." Where there is none, 0 stands in its place: it is below every Q, and the cell of
+-- scan 0 does not depend on it.
 unfoldable pub previous : ℕ → List ℕ → Option ℕ
 previous scan c = cond (eqb scan 0) (cond (eqb (length c) 0) (some 0) none) (number c)
 

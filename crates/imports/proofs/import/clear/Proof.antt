@@ -1,61 +1,21 @@
--- `imports::import::clear` meets its contract: the first i have been stored. Assumes nothing.
-use mathlib.Core.Path.{_≡_, ap, _∙_}
-use mathlib.Core.List.{List}
-use Prim.Native.Nat.{ℕ, _-_, _≤_}
+-- `imports::import::clear` meets its contract: zeros at the front. Assumes nothing.
+use mathlib.Core.Path.{_∙_}
 use native.Mathlib.Omega.{arith}
-use lib.ListN.{length, set, length-set}
-use borrow.Author.Fill.{fill-more}
+use Rattle.imports.proofs.ImportLaws.{zeros-front}
 use borrow.Author.Needs.{needs}
-use Rattle.imports.specs.Import.{filled}
 use Rattle.imports.proofs.import.clear.Statement.{statement}
 use Rattle.imports.proofs.import.clear.Tie as tie
 
-abbrev Inv-loop : tie.InvT-loop
-Inv-loop scratch₀ k i₀ scratch i = (i ≤ k) × ((scratch ≡ filled i 0 scratch₀) × (length scratch ≡ length scratch₀))
+put-zeros-requires : tie.Need-put-zeros-requires
+put-zeros-requires c κs = omega (arith, c .before .before .pre)
 
-abbrev μ-loop : tie.MeasureT-loop
-μ-loop scratch₀ k i₀ scratch i = k - i
-
-loop-holds : tie.Need-loop-holds Inv-loop μ-loop
-loop-holds c = search needs
-
-slice-write-scratch : tie.Need-slice-write-scratch Inv-loop μ-loop
-slice-write-scratch c = omega (arith, c .before .loop .inv .1 .1, c .before .before .pre)
-
-add-i : tie.Need-add-i Inv-loop μ-loop
-add-i c = search needs
-
-loop-less : tie.Need-loop-less Inv-loop μ-loop
-loop-less c = search needs
-
-loop-again : tie.Need-loop-again Inv-loop μ-loop
-loop-again c =
-    let l = c .before .loop in (
-      omega arith,
-      (
-        ap (λ (s : List ℕ). set s (l .i) (0)) (l .inv .1 .0) ∙ fill-more (l .i) (0) (c .before .before .args .scratch .now) (omega (arith, c .before .before .pre)),
-        simp length-set (l .inv .1 .1),
-      ),
-    )
-
-same-length : tie.Need-same-length Inv-loop μ-loop
+same-length : tie.Need-same-length
 same-length c = search needs
 
-returns : tie.Need-returns Inv-loop μ-loop
+returns : tie.Need-returns
 returns c =
-    let e : c .before .loop .i ≡ c .before .before .args .k = omega (arith, c .before .loop .inv .0) in
-    rw e at (c .before .loop .inv .1 .0)
+    let s = c .before .before .before .before .before in
+    c .before .before .put-zeros .ensures ∙ zeros-front (s .args .k) (s .args .scratch .now) (s .pre)
 
 pub clear-spec : {M : Type 1} → statement M
-clear-spec =
-    tie.close
-    (tie.spec
-    Inv-loop
-    μ-loop
-    loop-holds
-    slice-write-scratch
-    add-i
-    loop-less
-    loop-again
-    same-length
-    returns)
+clear-spec = tie.close (tie.spec put-zeros-requires same-length returns)
