@@ -189,13 +189,15 @@ static void run_slope(uint32_t n, uint32_t d) {
     expect("the slope is n/d", qpl_value(answer, QPL_AVERAGE_N) == n && qpl_value(answer, QPL_AVERAGE_D) == d);
 }
 
-static void run_files(uint64_t scans, uint64_t kind, uint64_t n, uint64_t d) {
+/* The settings go up by one and from 15 to 0, which law 0 and law 2 allow. */
+static void run_files(uint64_t scans, uint64_t law, uint64_t kind, uint64_t n, uint64_t d) {
     uint64_t length = scans > 1008 ? 1536 : 1024, k;
     uint64_t writing[ARGUMENTS] = {0}, reading[ARGUMENTS] = {0};
     uint64_t fields[11] = {0};
     /* the writer takes its fields in the order in which the reader answers them */
-    fields[QPL_READ_SCANS] = scans, fields[QPL_READ_SETTINGS] = 16, fields[QPL_READ_KIND] = kind, fields[QPL_READ_BUDGET] = UINT64_MAX;
-    fields[QPL_READ_N] = n, fields[QPL_READ_D] = d, fields[QPL_READ_RATE] = fields[QPL_READ_DISTORTION] = 1073740800;
+    fields[QPL_READ_SCANS] = scans, fields[QPL_READ_SETTINGS] = 16, fields[QPL_READ_LAW] = law, fields[QPL_READ_KIND] = kind;
+    fields[QPL_READ_BUDGET] = UINT64_MAX, fields[QPL_READ_N] = n, fields[QPL_READ_D] = d;
+    fields[QPL_READ_RATE] = fields[QPL_READ_DISTORTION] = 1073740800;
     fields[QPL_READ_PEAK] = 1048575, fields[QPL_READ_FLOOR] = kind == QPL_KIND_AVERAGE ? 1073740800 : 0;
     for (k = 0; k < scans; k++) plan[k] = (uint8_t)(k % 16);
     memcpy(writing, fields, sizeof fields);
@@ -292,7 +294,7 @@ static void guards(void) {
 
 int main(void) {
     static const uint64_t sizes[][2] = {{1, 1}, {1, 16}, {2, 2}, {5, 3}, {30, 5}, {100, 8}, {40, 15}};
-    uint64_t arguments[ARGUMENTS] = {1048576, 1024, 16};
+    uint64_t arguments[ARGUMENTS] = {1048576, 1024, 16}, law;
     size_t k;
     guards();
 
@@ -303,25 +305,24 @@ int main(void) {
     arguments[0] = 0;
     run(CALL_ROOM, arguments, 10);
 
-    run_files(1024, QPL_KIND_AVERAGE, FIBONACCI, FIBONACCI_BEFORE);
-    run_files(1024, QPL_KIND_AVERAGE, FIBONACCI_BEFORE, FIBONACCI);
-    run_files(1008, QPL_KIND_AVERAGE, 0, 1);
-    run_files(1024, QPL_KIND_MINMAX, 0, 0);
+    run_files(1024, 0, QPL_KIND_AVERAGE, FIBONACCI, FIBONACCI_BEFORE);
+    run_files(1024, 0, QPL_KIND_AVERAGE, FIBONACCI_BEFORE, FIBONACCI);
+    run_files(1024, 2, QPL_KIND_AVERAGE, FIBONACCI, FIBONACCI_BEFORE);
+    run_files(1008, 0, QPL_KIND_AVERAGE, 0, 1);
+    run_files(1024, 0, QPL_KIND_MINMAX, 0, 0);
+    run_files(1024, 2, QPL_KIND_MINMAX, 0, 0);
 
     fill(0);
-    run_plans(1024, 16, 0);
-    run_plans(1024, 16, 1);
+    for (law = 0; law <= 2; law++) run_plans(1024, 16, law);
     for (k = 0; k < sizeof sizes / sizeof sizes[0]; k++) {
-        run_plans(sizes[k][0], sizes[k][1], 0);
-        run_plans(sizes[k][0], sizes[k][1], 1);
+        for (law = 0; law <= 2; law++) run_plans(sizes[k][0], sizes[k][1], law);
         run_lists(sizes[k][0], sizes[k][1]);
     }
     for (k = 0; k < CELLS; k++) rates[k] = distortions[k] = 1048575;
     run_lists(1024, 16);
     expect("the longest list", qpl_value(answer, QPL_EXPORT_LENGTH) == LONGEST);
     fill(16);
-    run_plans(1024, 16, 0);
-    run_plans(1024, 16, 1);
+    for (law = 0; law <= 2; law++) run_plans(1024, 16, law);
     /* refused at the last cell; no sequence */
     distortions[CELLS - 1] = 1048576;
     rates[CELLS - 1] = 0;

@@ -1,7 +1,8 @@
-/* The worked tables of document 01 ("Bench tables", the "Others" too) and its room figures, and lists of table T by the rules of document
- * 02, [1], through the archive: of planning calls every value, every byte of every buffer, and guard bytes on both sides of each; of files the
- * fields, the settings, the letters, the first packed byte, and guard bytes; of lists every cell and byte, and guards. What is expected is
- * written out by hand: of document 01 its own figures, of lists what the rules give. */
+/* The worked tables of document 01 ("Bench tables", the "Others" too) and its room figures, lists of table T by the rules of document 02,
+ * [1], and table V, of which each law has another plan, by those of [2], through the archive: of planning calls every value, every byte of
+ * every buffer, and guard bytes on both sides of each; of files the fields, the settings, the letters, the first packed byte, and guard
+ * bytes; of lists every cell and byte, and guards. What is expected is written out by hand: of document 01 its own figures, of lists and of
+ * table V what the rules give. */
 #include "lent.h"
 #include "qpl.h"
 
@@ -99,6 +100,9 @@ static const uint32_t zero_two[] = {1, F, F, F, F, F, 1, F, F, F, F, F, F, F, F,
 static const uint32_t three_one[] = {F, F, F, 1, F, F, F, F, F, F, F, F, F, F, F, F, F, 1, F, F};
 static const uint32_t zero_three[] = {1, F, F, F, F, F, F, 1, F, F, F, F, F, F, F, F, F, F, F, F};
 static const uint32_t zeros[20] = {0};
+/* N 2, Q 4: of scan 1 the steps from 0 to 3, from 3 to 0, from 0 to 2 and from 2 to 0 have rates of their own. */
+static const uint32_t v_rates[] = {5, 5, 5, 5, 9, 9, 4, 1, 9, 9, 9, 9, 6, 9, 9, 9, 2, 9, 9, 9};
+static const uint32_t v_distortions[] = {1, 1, 1, 1, 3, 3, 3, 3, 3, 3, 3, 3, 3, 3, 3, 3, 3, 3, 3, 3};
 
 static const table T = {2, 2, 0, t_rates, t_distortions, 6};
 static const table U = {1, 3, 0, u_rates, u_distortions, 3};
@@ -106,6 +110,10 @@ static const table BLOCKED = {2, 2, 0, blocked_rates, t_distortions, 6};
 static const table TOP = {1, 1, 0, top, zero, 1}, OVER = {1, 1, 0, over, zero, 1}, SINGLE = {1, 1, 0, zero, zero, 1};
 static const table ZERO_TWO = {2, 4, 1, zero_two, zeros, 20}, THREE_ONE = {2, 4, 1, three_one, zeros, 20};
 static const table ZERO_THREE = {2, 4, 1, zero_three, zeros, 20};
+static const table V0 = {2, 4, 0, v_rates, v_distortions, 20}, V1 = {2, 4, 1, v_rates, v_distortions, 20};
+static const table V2 = {2, 4, 2, v_rates, v_distortions, 20}, V3 = {2, 4, 3, v_rates, v_distortions, 20};
+/* A number of which the low 32 bits are a law. */
+static const table WIDE = {2, 4, (UINT64_C(1) << 32) + 2, v_rates, v_distortions, 20};
 
 static const expected all[] = {
     {"P1 T, average 18", &T, AVERAGE, 18, 0, 0, 0, 6, {0, 1, 18, 5, 3, 5}, {0, 0}},
@@ -134,7 +142,46 @@ static const expected all[] = {
     {"law 1: 0 then 3", &ZERO_THREE, CEILING, 0, 0, 8, 0, 0, {0}, {0}},
     {"N 1, Q 1, both cells 0, average 0", &SINGLE, AVERAGE, 0, 0, 0, 0, 6, {0, 1, 0, 0, 0, 0}, {0}},
     {"T, multiplier 0/0", &T, MULTIPLIER, 0, 0, 4, 0, 0, {0}, {0}},
+    {"V, law 0, ceiling 4,294,967,295", &V0, CEILING, 4294967295, 0, 0, 0, 3, {6, 4, 3}, {0, 3}},
+    {"V, law 1, ceiling 4,294,967,295", &V1, CEILING, 4294967295, 0, 0, 0, 3, {9, 4, 3}, {0, 2}},
+    {"V, law 2, ceiling 4,294,967,295", &V2, CEILING, 4294967295, 0, 0, 0, 3, {7, 4, 3}, {3, 0}},
+    {"V, law 0, minmax 6", &V0, MINMAX, 6, 0, 0, 0, 4, {3, 6, 4, 3}, {0, 3}},
+    {"V, law 1, minmax 6", &V1, MINMAX, 6, 0, 9, 0, 0, {0}, {0}},
+    {"V, law 2, minmax 6", &V2, MINMAX, 6, 0, 9, 0, 0, {0}, {0}},
+    {"V, law 0, minmax 7", &V0, MINMAX, 7, 0, 0, 0, 4, {3, 6, 4, 3}, {0, 3}},
+    {"V, law 1, minmax 7", &V1, MINMAX, 7, 0, 9, 0, 0, {0}, {0}},
+    {"V, law 2, minmax 7", &V2, MINMAX, 7, 0, 0, 0, 4, {3, 7, 4, 3}, {3, 0}},
+    {"V, law 2, ceiling 2", &V2, CEILING, 2, 0, 9, 0, 0, {0}, {0}},
+    {"V, law 2, multiplier 1/1", &V2, MULTIPLIER, 1, 1, 0, 0, 3, {7, 4, 3}, {3, 0}},
+    {"V, law 2, average 6", &V2, AVERAGE, 6, 0, 9, 0, 0, {0}, {0}},
+    {"V, law 2, average 7", &V2, AVERAGE, 7, 0, 0, 0, 6, {0, 1, 7, 4, 3, 4}, {3, 0}},
+    {"V, law 3, ceiling 4,294,967,295", &V3, CEILING, 4294967295, 0, 3, 0, 0, {0}, {0}},
+    {"V, law 3, multiplier 0/0", &V3, MULTIPLIER, 0, 0, 3, 0, 0, {0}, {0}},
+    {"V, law 3, minmax 7", &V3, MINMAX, 7, 0, 3, 0, 0, {0}, {0}},
+    {"V, law 3, average 7", &V3, AVERAGE, 7, 0, 3, 0, 0, {0}, {0}},
+    {"V, law 2^32 + 2, average 7", &WIDE, AVERAGE, 7, 0, 3, 0, 0, {0}, {0}},
 };
+
+/* How many of the 16 sequences of 2 scans and 4 settings the law allows: each in turn is the only one whose cells are open. -1 where they
+ * are not those with a 'y' in `right`, which has 0 0, 0 1 and so on to 3 3: law 2 turned round allows as many, but others. */
+static int allowed_by(uint64_t law, const char *right) {
+    uint32_t rates[20];
+    uint8_t plan[2] = {0}, scratch[8] = {0}, answer[QPL_CEILING_ANSWER] = {0};
+    int p, q, k, allowed = 0;
+    for (p = 0; p < 4; p++)
+        for (q = 0; q < 4; q++) {
+            uint64_t given;
+            for (k = 0; k < 20; k++) rates[k] = k == p || k == 4 + 4 * p + q ? 1 : F;
+            given = qpl_ceiling(2, 4, law, UINT32_MAX, rates, 20, zeros, 20, plan, 2, scratch, 8, answer, sizeof answer);
+            if (right[4 * p + q] != 'y') {
+                if (given != 8) return -1;
+            } else {
+                if (given != 0 || plan[0] != p || plan[1] != q) return -1;
+                allowed++;
+            }
+        }
+    return allowed;
+}
 
 static int room_is(uint64_t channels, uint64_t scans, uint64_t settings, uint64_t cells, uint64_t bytes, uint64_t scratch) {
     lent answer = lend(QPL_ROOM_ANSWER, 50);
@@ -210,6 +257,67 @@ static void files(void) {
                holds(&file, 0, NULL, 13));
     expect("a file buffer of 1,023 bytes: refused 6",
            qpl_write(2, 2, 0, QPL_KIND_AVERAGE, 17, 3, 5, 13, 8, 6, 6, settings, 2, file.bytes, 1023) == 6 && holds(&file, 0, NULL, 13));
+    give_back(&file);
+    give_back(&plan);
+    give_back(&answer);
+}
+
+/* A byte of block 0 changed, and the check of the block made right again. */
+static void put(uint8_t *file, size_t at, uint8_t byte) {
+    uint32_t sum = 0;
+    size_t k;
+    file[at] = byte;
+    for (k = 0; k < 508; k++) sum += file[k];
+    for (k = 0; k < 4; k++) file[508 + k] = (uint8_t)(sum >> 8 * k);
+}
+
+/* A minmax plan of V under a law, written and read: what both must give back. What is read, and what a write that is not refused must
+ * write, is the plan's file under law 0, which any two settings keep, with the law changed. */
+static int filed(uint64_t law, uint8_t first, uint8_t second, uint64_t rate, uint64_t right) {
+    uint8_t settings[2];
+    lent file = lend(1024, 13), written = lend(1024, 13), plan = lend(2, 13), answer = lend(QPL_READ_ANSWER, 50);
+    int good;
+    settings[0] = first, settings[1] = second;
+    good = qpl_write(2, 4, 0, QPL_KIND_MINMAX, 7, 0, 0, rate, 4, 3, 0, settings, 2, file.bytes, file.length) == 0 && lent_guarded(&file);
+    put(file.bytes, 11, (uint8_t)law);
+    good = good && qpl_write(2, 4, law, QPL_KIND_MINMAX, 7, 0, 0, rate, 4, 3, 0, settings, 2, written.bytes, written.length) == right;
+    good = good && holds(&written, right == 0 ? 1024 : 0, file.bytes, 13);
+    good = good && qpl_read(file.bytes, file.length, plan.bytes, plan.length, answer.bytes, answer.length) == right;
+    good = good && holds(&plan, right == 0 ? 2 : 0, settings, 13);
+    good = good && (right == 0 ? lent_guarded(&answer) && qpl_value(answer.bytes, QPL_READ_LAW) == law : holds(&answer, 0, NULL, 50));
+    give_back(&file);
+    give_back(&written);
+    give_back(&plan);
+    give_back(&answer);
+    return good;
+}
+
+static void laws(void) {
+    static const uint8_t settings[] = {3, 0};
+    const uint64_t at_1 = 14 | UINT64_C(1) << 32, at_law = 13 | UINT64_C(11) << 32, at_kind = 13 | UINT64_C(12) << 32;
+    lent file = lend(1024, 13), plan = lend(2, 13), answer = lend(QPL_READ_ANSWER, 50);
+    expect("law 0 allows 16 sequences", allowed_by(0, "yyyy" "yyyy" "yyyy" "yyyy") == 16);
+    expect("law 1 allows 14 sequences, not 0 3 and 3 0", allowed_by(1, "yyyn" "yyyy" "yyyy" "nyyy") == 14);
+    expect("law 2 allows 15 sequences, not 0 3", allowed_by(2, "yyyn" "yyyy" "yyyy" "yyyy") == 15);
+    expect("law 0, a file of 3 0", filed(0, 3, 0, 7, 0));
+    expect("law 0, a file of 0 3", filed(0, 0, 3, 6, 0));
+    expect("law 1, a file of 3 0: refused 14, at 1", filed(1, 3, 0, 7, at_1));
+    expect("law 1, a file of 0 3: refused 14, at 1", filed(1, 0, 3, 6, at_1));
+    expect("law 2, a file of 3 0", filed(2, 3, 0, 7, 0));
+    expect("law 2, a file of 0 3: refused 14, at 1", filed(2, 0, 3, 6, at_1));
+    expect("law 3, a file of 3 0: refused 13, at 11", filed(3, 3, 0, 7, at_law));
+    expect("law 255, a file of 3 0: refused 13, at 11", filed(255, 3, 0, 7, at_law));
+    expect("law 2^32 + 2: not written",
+           qpl_write(2, 4, (UINT64_C(1) << 32) + 2, QPL_KIND_MINMAX, 7, 0, 0, 7, 4, 3, 0, settings, 2, file.bytes, file.length) == at_law &&
+               holds(&file, 0, NULL, 13));
+    expect("law 2, kind 2: not written", qpl_write(2, 4, 2, 2, 7, 0, 0, 7, 4, 3, 0, settings, 2, file.bytes, file.length) == at_kind &&
+                                             holds(&file, 0, NULL, 13));
+    expect("law 2, kind 1: written",
+           qpl_write(2, 4, 2, QPL_KIND_MINMAX, 7, 0, 0, 7, 4, 3, 0, settings, 2, file.bytes, file.length) == 0 && lent_guarded(&file));
+    put(file.bytes, 12, 2);
+    expect("law 2, kind 2: refused 13, at 12",
+           qpl_read(file.bytes, file.length, plan.bytes, plan.length, answer.bytes, answer.length) == at_kind &&
+               holds(&plan, 0, NULL, 13) && holds(&answer, 0, NULL, 50));
     give_back(&file);
     give_back(&plan);
     give_back(&answer);
@@ -351,6 +459,7 @@ int main(void) {
     expect("an answer buffer of 23 bytes", room_refused(1, 1, 1, 23, 6) && room_refused(1, 1, 1, 0, 6) && room_refused(1, 1, 0, 23, 2));
     named();
     files();
+    laws();
     import_export();
     printf("%d passed, %d failed\n", passed, failed);
     return failed != 0;

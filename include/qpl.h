@@ -6,16 +6,16 @@
  * symbols are memcpy and memset of the C library.
  *
  * The words: a sequence is allowed when it has `scans` settings below `settings`, uses no forbidden cell and keeps the law. Law 0: any
- * change between scans. Law 1: consecutive settings differ by at most 2. The rate of a sequence is the sum of its rate cells, its
- * distortion the sum of its distortion cells, its peak the largest of its distortion cells. "First" among sequences: at the earliest place
- * where two differ, the lower setting wins.
+ * change between scans. Law 1: consecutive settings differ by at most 2. Law 2: a setting is at most 2 above the one before it, or below it
+ * by any amount. The rate of a sequence is the sum of its rate cells, its distortion the sum of its distortion cells, its peak the largest of
+ * its distortion cells. "First" among sequences: at the earliest place where two differ, the lower setting wins.
  *
  * What a call gives back: 0, or a refusal. A refusal has its number in the low 32 bits (qpl_refusal) and what it carries in the high 32
  * (qpl_carried; 0 where the table below names nothing).
  *
  *    1  scans is 0 or over 1,024
  *    2  settings is 0 or over 16
- *    3  law is not 0 or 1
+ *    3  law is not 0, 1 or 2
  *    4  n or d outside its range (n at most, d from 1 to 1,073,741,823)
  *    5  rate or distortion table not of the exact length
  *    6  a lent buffer shorter than needed; in qpl_import a table too
@@ -130,7 +130,7 @@ uint64_t qpl_room(uint64_t channels, uint64_t scans, uint64_t settings, uint8_t 
  *    4  letters          QPL1
  *    8  scans            1 to 1,024; a file of over 1,008 has 1,536 bytes, any other 1,024
  *   10  settings         1 to 16
- *   11  law              0 or 1
+ *   11  law              0, 1 or 2
  *   12  kind             0 or 1
  *   13  zeros
  *   24  n                kind 0: at most 1,073,741,823, and n/d in lowest terms; kind 1: 0

@@ -63,7 +63,7 @@ typedef struct {
             size_t rows = i ? k : 1, start = i ? k + (i - 1) * k * k : 0;                                                                   \
             for (size_t p = 0; p < rows; p++) {                                                                                             \
                 const uint32_t *r = j->rates + start + p * k, *x = j->distortions + start + p * k;                                          \
-                size_t from = i && j->law && p > 2 ? p - 2 : 0, to = i && j->law && p + 3 < k ? p + 3 : k;                                  \
+                size_t from = i && j->law == 1 && p > 2 ? p - 2 : 0, to = i && j->law && p + 3 < k ? p + 3 : k;                             \
                 uint64_t best = NONE, tie = NONE;                                                                                           \
                 uint8_t at = 0;                                                                                                             \
                 LOOP next[p] = best;                                                                                                        \

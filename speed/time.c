@@ -137,6 +137,7 @@ int main(void) {
     for (int which = PASS; which <= MINMAX; which++)
         for (int k = 0; k < 3; k++) {
             failed += row((enum call)which, 1024, settings[k], 1, 0);
+            failed += row((enum call)which, 1024, settings[k], 2, 0);
             failed += row((enum call)which, 1024, settings[k], 0, 1);
         }
     return failed != 0;

@@ -1,6 +1,6 @@
 #!/usr/bin/env python3
-"""What bench must write for a text, written from document 01, "Bench tables", and sharing nothing with the library. Run as a program it does
-what bench does: a text on standard input, its lines on standard output."""
+"""What bench must write for a text, written from document 01, "Bench tables", and request [2] of document 02, and sharing nothing with the
+library. Run as a program it does what bench does: a text on standard input, its lines on standard output."""
 
 import re
 import sys
@@ -8,6 +8,7 @@ import sys
 sys.dont_write_bytecode = True
 
 import planner
+from laws import LAWS
 from planner import AVERAGE, MINMAX
 
 MOST_NUMBER = 4294967295
@@ -63,7 +64,7 @@ def told(text):
     if len(words) < 4:
         raise BadInput
     scans, settings, law, budget = [number(word) for word in words[:4]]
-    for refusal, outside in ((1, not 1 <= scans <= 1024), (2, not 1 <= settings <= 16), (3, law not in (0, 1))):
+    for refusal, outside in ((1, not 1 <= scans <= 1024), (2, not 1 <= settings <= 16), (3, law not in LAWS)):
         if outside:
             return refused("ave", refusal, 0) + refused("minmax", refusal, 0)
     cells = planner.cells(scans, settings)

@@ -61,7 +61,7 @@ def high_halves(out, draw):
 
 
 def steps(out, draw):
-    """Law 1 and law 0 on every pair of settings, in one byte, over two, and over two blocks."""
+    """Law 1 and law 0 on every pair of settings, in one byte, over two, and over two blocks. The steps of law 2 stand in file_laws.py."""
     for scans, k in ((2, 0), (3, 1), (1010, 1007), (1009, 1007)):
         f, _ = sample(draw, scans, 16, 1, 1)
         for before in range(16):

@@ -2,6 +2,7 @@
 
 import planfile
 from file_changes import BREAKERS, broken, with_bytes, with_entry
+from laws import LAWS
 
 
 class Faulty:
@@ -55,7 +56,7 @@ def several_faults(out, draw):
         # a plan serves ten times: what the input has to tell is then mostly the faults
         if k % 10 == 0:
             scans = draw.choice([1, 2, 9, 40]) if k % 50 else draw.choice([70, 1000, 1007, 1008, 1009, 1010, 1024])
-            f = planfile.random_fields(draw, scans, draw.randint(1, 16), draw.randrange(2), draw.randrange(2))
+            f = planfile.random_fields(draw, scans, draw.randint(1, 16), draw.choice(LAWS), draw.randrange(2))
             chosen = planfile.random_settings(draw, f)
         made = [fault for fault in FAULTS if draw.random() < 0.3]
         faulty = Faulty(draw, f, chosen)

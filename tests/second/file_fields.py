@@ -11,7 +11,7 @@ TERM, TOTAL, PEAK = planfile.MOST_TERM, planfile.MOST_TOTAL, planfile.MOST_PEAK
 ENDS = {
     "scans": [0, 1, 2, 255, 256, 1007, 1008, 1009, 1023, 1024, 1025, 1280, 2048, 65535],
     "settings": [0, 1, 2, 15, 16, 17, 128, 255],
-    "law": [0, 1, 2, 3, 128, 255],
+    "law": [0, 1, 2, 3, 4, 128, 255],
     "kind": [0, 1, 2, 3, 128, 255],
     "budget": [0, 1, TOTAL - 1, TOTAL, TOTAL + 1, 2 ** 32 - 1, 2 ** 32, 2 ** 63, TOP],
     "n": [0, 1, 2, 3, TERM - 1, TERM, TERM + 1, 2 ** 31, 2 ** 32 - 1],

@@ -20,7 +20,7 @@ def lent_to_the_writer(out, f, chosen):
         out.write(f, chosen, lent)
         out.write(f, chosen[:-1] + [16], lent)
         out.write(f, chosen[:-1], lent)
-        out.write(dict(f, law=2), chosen[:-1] + [16], lent)
+        out.write(dict(f, law=3), chosen[:-1] + [16], lent)
 
 
 def given_to_the_writer(out, f, chosen):

@@ -9,6 +9,7 @@ from file_entries import entries, filler, high_halves, steps
 from file_faults import several_faults
 from file_fields import compared, each_field, several_fields, terms
 from file_good import all_ends, every_size
+from file_laws import laws_and_kinds, steps_at, steps_between
 from file_lengths import buffer_lengths
 from file_sweeps import sweeps
 from lines import counted
@@ -20,6 +21,7 @@ PARTS = [
     several_fields,
     entries, high_halves, steps, filler,
     buffer_lengths, several_faults, sweeps,
+    laws_and_kinds, steps_between, steps_at,
 ]
 
 

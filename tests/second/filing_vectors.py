@@ -1,15 +1,19 @@
-"""The vectors of filing: what crates/filing_cases, which reads nothing, must write. Each line is a planning call on table T or U; where it
-gives a plan, the plan's fields go through the writer of planfile.py, and the line shows the file buffer."""
+"""The vectors of filing: what crates/filing_cases, which reads nothing, must write. Each line is a planning call on table T or U, or on V
+under a law; where it gives a plan, the plan's fields go through the writer of planfile.py, and the line shows the file buffer."""
 
 import planfile
 from buffers import pattern
 from crate_files import store
 from lines import line
-from plan_worked import T, U
+from plan_worked import T, U, V
 from planner import AVERAGE, MINMAX, ByTryingAll, answer
 
 # where the pattern of the file buffer starts, and its length
 START, ROOM = 13, 1029
+
+ASKED = [(T, (8, 9, 12, 13, 17, 18)), (U, (1, 7, 9))]
+# under each law, and under 3, which is none
+ASKED += [(V[:2] + (law,) + V[3:], budgets) for law, budgets in ((0, (6,)), (1, (7, 9)), (2, (6, 7)), (3, (7,)))]
 
 
 def average_fields(budget, values):
@@ -24,7 +28,8 @@ def minmax_fields(budget, values):
 
 def filed(table, call, budget, fields):
     scans, settings, law, rates, distortions = table
-    number, values, plan, _ = answer(ByTryingAll, call, scans, settings, law, (budget, 0), rates, distortions, bytes(2), bytes(4))
+    lent = bytes(scans), bytes(scans * settings)
+    number, values, plan, _ = answer(ByTryingAll, call, scans, settings, law, (budget, 0), rates, distortions, *lent)
     if number != 0:
         return line(number, values)
     told = dict(scans=scans, settings=settings, law=law, **fields(budget, values))
@@ -33,7 +38,7 @@ def filed(table, call, budget, fields):
 
 
 def cases():
-    for table, budgets in ((T, (8, 9, 12, 13, 17, 18)), (U, (1, 7, 9))):
+    for table, budgets in ASKED:
         for budget in budgets:
             yield filed(table, AVERAGE, budget, average_fields)
             yield filed(table, MINMAX, budget, minmax_fields)

@@ -3,6 +3,7 @@ its seed, base, span and forbid."""
 
 import planner
 from edges import TOP
+from laws import LAWS
 from plan_cells import generated
 from plan_limits import stretched
 from planner import AVERAGE, CEILING, FORBIDDEN, MINMAX, MOST_CELL, MOST_TERM, MULTIPLIER
@@ -33,6 +34,7 @@ def large(out, scans, settings, law, rates, distortions, budgets, ceilings, term
 def any_cells(out):
     for law, seed in ((0, 11), (1, 12)):
         large(out, *SIZES, law, (seed,) + WIDE, (seed + 100,) + WIDE, (250000000, 70000000, TOP), (600000, 1048575, 70000), TERMS)
+    large(out, *SIZES, 2, (13,) + WIDE, (113,) + WIDE, (250000000,), (), ())
 
 
 def some_forbidden(out):
@@ -68,7 +70,8 @@ def far_end(out):
 def in_between(out):
     for scans, settings in ((1024, 1), (1024, 2), (1023, 3), (100, 16), (257, 5), (64, 9)):
         spread = scans * 300000
-        for law in (0, 1):
+        # under law 2 the shortest, whose plans take the least to show
+        for law in LAWS if scans == 64 else (0, 1):
             rates, distortions = (scans + law,) + WIDE, (settings + law,) + WIDE
             large(out, scans, settings, law, rates, distortions, (spread, spread // 2, TOP), (900000, 1048575), TERMS[:3])
 

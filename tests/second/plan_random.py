@@ -1,6 +1,7 @@
 """Random small tables, in styles that make ties of every kind, with limits drawn from their own sequences."""
 
 import planner
+from laws import LAWS
 from plan_cells import LEGAL, PRIME, SPECIAL, coded, generated
 from plan_limits import all_limits, random_limits
 from planner import FORBIDDEN, MOST_CELL
@@ -116,7 +117,7 @@ def random_coded(draw, scans, settings, size):
 
 def small_table(out, draw, scans, settings, limits):
     """A table of this shape, with the calls that `limits` gives for it."""
-    law = draw.randrange(2)
+    law = draw.choice(LAWS)
     size = planner.cells(scans, settings)
     made = random_generated(draw, size) if draw.random() < 0.15 else random_coded(draw, scans, settings, size)
     plan, scratch = scans + draw.choice([0, 0, 1, 2]), scans * settings + draw.choice([0, 0, 1, 3])

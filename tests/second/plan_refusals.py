@@ -2,6 +2,7 @@
 
 import planner
 from edges import TOP
+from laws import LAWS, NO_LAWS
 from plan_cells import coded, generated, kept
 from plan_limits import one_of_each
 from plan_worked import T, U
@@ -33,7 +34,7 @@ def exact_length(out):
     """N, Q and law at both sides of their limits, with tables of the exact length."""
     for scans, settings in ((1, 16), (2, 16), (1024, 1), (1025, 1), (1, 17), (2, 17), (1023, 1)):
         size = planner.cells(scans, settings)
-        for law in (0, 1, 2):
+        for law in (0, 1, 2, 3):
             made = generated((size, size), (5 + scans, 0, 9, 0), (6 + settings, 0, 9, 0))
             out.group(scans, settings, law, made, one_of_each(budget=9 * scans // 2), min(scans, 1100) + 1)
 
@@ -94,13 +95,17 @@ def with_illegal(draw, size, k, turn):
 
 
 def illegal_cells(out, draw):
-    """Each cell of a table in turn, one or two illegal ones, rates and distortions, also where law 1 rules the cell out."""
+    """Each cell of a table in turn, one or two illegal ones, rates and distortions, also where law 1 rules the cell out; and under law 2
+    the cell of 0 and then 3, which it rules out, and that of 3 and then 0, which it does not."""
     for scans, settings, law in ((2, 2, 0), (1, 3, 1), (2, 4, 1), (3, 2, 0)):
         size = planner.cells(scans, settings)
         for k in range(size):
             for turn in range(8):
                 made = with_illegal(draw, size, k, turn)
                 out.group(scans, settings, law, made, one_call(draw.randrange(4)))
+    for k in (planner.cell(4, 1, 0, 3), planner.cell(4, 1, 3, 0)):
+        for turn in (0, 1, 4):
+            out.group(2, 4, 2, with_illegal(draw, planner.cells(2, 4), k, turn), one_call(draw.randrange(4)))
 
 
 def all_forbidden(out):
@@ -131,13 +136,13 @@ def faulty_cells(draw, faults):
 def several_faults(out, draw):
     """The first condition in the document's order has to come."""
     for _ in range(300):
-        law = draw.randrange(2)
+        law = draw.choice(LAWS)
         budget, x = draw.choice([(TOP, FORBIDDEN), (17, 7), (8, 2), (0, 0)])
         faults = [draw.random() < 0.3 for _ in range(8)]
         made = faulty_cells(draw, faults)
         plan, scratch = draw.choice([(1, 6), (3, 3), (0, 0)]) if faults[5] else (3, 6)
         n, d = draw.choice([(MOST_TERM + 1, 1), (1, 0), (1, MOST_TERM + 1), (TOP, TOP)]) if faults[3] else (9, 4)
-        law = draw.choice([2, 3, TOP]) if faults[2] else law
+        law = draw.choice(NO_LAWS) if faults[2] else law
         settings = draw.choice([0, 17, TOP]) if faults[1] else 2
         scans = draw.choice([0, 1025, TOP]) if faults[0] else 2
         out.group(scans, settings, law, made, one_of_each(n, d, budget, x), plan, scratch)

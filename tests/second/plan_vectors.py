@@ -7,6 +7,7 @@ from crate_files import store
 from lines import counted
 from plan_calls import PlanCalls
 from plan_large import large_tables
+from plan_laws import laws_apart
 from plan_random import small_tables
 from plan_refusals import refusals
 from plan_worked import worked_tables
@@ -18,6 +19,7 @@ def make(into):
     small_tables(out, draw)
     refusals(out, draw)
     large_tables(out)
+    laws_apart(out, draw)
     # the source 0 ends the run
     stdin, stdout = b"".join(out.stdin) + struct.pack("<Q", 0), "".join(out.lines).encode()
     store(into, "plan_cases", stdin, stdout)

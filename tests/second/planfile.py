@@ -1,6 +1,6 @@
 #!/usr/bin/env python3
-"""What the plan-file reader and writer must answer, written from document 01, "Plan file" and "Numbers a caller can get back", and sharing
-nothing with the library.
+"""What the plan-file reader and writer must answer, written from document 01, "Plan file" and "Numbers a caller can get back", and request
+[2] of document 02, and sharing nothing with the library.
 
 `read` and `write` are whole calls: the number that comes back (0: no refusal), the values beside it, and what the lent buffer holds
 afterwards. The reader's values are the eleven fields in the order of `FIELDS`, the writer's the file's length; a refusal's what it carries.
@@ -9,6 +9,8 @@ Run as a program, this file writes and reads random files, and holds files that 
 import math
 import random
 import sys
+
+from laws import LAWS, NO_LAWS, keeps
 
 # A field's name, where it starts in block 0, and its bytes.
 FIELDS = [
@@ -50,10 +52,6 @@ class Refusal(Exception):
 # Rules
 
 
-def keeps(law, before, setting):
-    return law == 0 or abs(before - setting) <= 2
-
-
 def length_for(scans):
     """The length of a file of this many scans."""
     return 1536 if scans > ENTRIES_TO_A_BLOCK else 1024
@@ -67,7 +65,7 @@ def broken_fields(f):
         out.append(8)
     if not 1 <= f["settings"] <= MOST_SETTINGS:
         out.append(10)
-    if f["law"] not in (0, 1):
+    if f["law"] not in LAWS:
         out.append(11)
     if f["kind"] == AVERAGE:
         n_in, d_in = f["n"] <= MOST_TERM, 1 <= f["d"] <= MOST_TERM
@@ -242,12 +240,14 @@ def random_fields(draw, scans, settings, law, kind):
 
 
 def random_settings(draw, f):
-    """Settings that keep every rule; under law 1 the steps of 2 are common."""
+    """Settings that keep every rule; the largest steps that the law allows are common."""
     out, top = [], f["settings"] - 1
     for _ in range(f["scans"]):
         low, high = 0, top
         if out and f["law"] == 1:
-            low, high = max(out[-1] - 2, 0), min(out[-1] + 2, top)
+            low = max(out[-1] - 2, 0)
+        if out and f["law"] in (1, 2):
+            high = min(out[-1] + 2, top)
         out.append(draw.choice([low, high, draw.randint(low, high)]))
     return out
 
@@ -309,7 +309,10 @@ def by_hand():
     refused({}, 12, 2, length=1536)
     refused({4: 113}, 13, 4)
     refused({9: 4}, 13, 8)
-    refused({10: 17, 11: 2}, 13, 10)
+    refused({10: 17, 11: 3}, 13, 10)
+    refused({11: 3}, 13, 11)
+    refused({11: 255, 12: 2}, 13, 11)
+    refused({11: 2, 12: 2}, 13, 12)
     refused({12: 2, 24: 4, 28: 6}, 13, 12)
     refused({15: 1}, 13, 13)
     refused({24: 5}, 13, 24)
@@ -327,13 +330,35 @@ def by_hand():
     refused({1019: 16}, 14, 1007)
 
 
+def lawful():
+    """Files of 2 scans and 4 settings under each law, and under numbers that are none: what comes back for 3 0, for 0 3 and for 0 2."""
+    refusals, carried = {0: (0, 0, 0), 1: (14, 14, 0), 2: (0, 14, 0), 3: (13, 13, 13), 255: (13, 13, 13)}, {13: [11], 14: [1]}
+    for kind, told in ((AVERAGE, [7, 0, 1, 7, 4, 3, 4]), (MINMAX, [7, 0, 0, 7, 4, 3, 0])):
+        for law, numbers in refusals.items():
+            f = dict(zip(NAMES, [2, 4, law, kind] + told))
+            for settings, refusal in zip(((3, 0), (0, 3), (0, 2)), numbers):
+                file = another_way(f, settings)
+                read_so, written_so = (0, list(f.values()), bytes(settings)), (0, [1024], file)
+                if refusal:
+                    read_so, written_so = (refusal, carried[refusal], b"\7\7"), (refusal, carried[refusal], bytes(1024))
+                assert read(file, b"\7\7") == read_so and write(f, bytes(settings), bytes(1024)) == written_so
+            # a kind has a rule of its own, behind the law's
+            for other in (2, 3, 255):
+                refused_at = 12 if law in (0, 1, 2) else 11
+                assert read(another_way(dict(f, kind=other), (0, 0)), b"\7\7") == (13, [refused_at], b"\7\7")
+        for law in NO_LAWS:
+            f = dict(zip(NAMES, [2, 4, law, kind] + told))
+            assert write(f, bytes(2), bytes(1024)) == (13, [11], bytes(1024))
+
+
 def main():
     by_hand()
+    lawful()
     draw = random.Random(30)
     count = 0
     for k in range(1500):
         scans = draw.choice([1, 2, 3, 1007, 1008, 1009, 1010, 1023, 1024, draw.randint(1, 1024)])
-        f = random_fields(draw, scans, 1 + k % 16, k // 16 % 2, k // 32 % 2)
+        f = random_fields(draw, scans, 1 + k % 16, k // 16 % 3, k // 48 % 2)
         settings = random_settings(draw, f)
         file = another_way(f, settings)
         lent = bytes([draw.randrange(256)]) * draw.choice([scans, scans + 1, 1100])

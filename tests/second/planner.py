@@ -1,16 +1,18 @@
 #!/usr/bin/env python3
-"""What the four planning calls must answer, written from document 01 and sharing nothing with the library.
+"""What the four planning calls must answer, written from document 01 and request [2] of document 02, and sharing nothing with the library.
 
 `answer` is a whole call: the number that comes back (0: no refusal), the values beside it, and what both lent buffers hold afterwards. It
 takes its plans from one of two makers. `ByTryingAll` lists every allowed sequence of a small table and reads each definition off the list.
 `ByDynamicProgram` is for tables that are too large for that. Run as a program, this file holds the two against each other, and both against
-the examples of document 01."""
+the examples of document 01 and a table that tells the laws apart."""
 
 import itertools
 import math
 import random
 import sys
 from fractions import Fraction
+
+from laws import LAWS, NO_LAWS, keeps
 
 CEILING, MULTIPLIER, MINMAX, AVERAGE = 1, 2, 3, 4
 
@@ -34,10 +36,6 @@ def cell(settings, scan, before, setting):
     if scan == 0:
         return setting
     return settings + (scan - 1) * settings ** 2 + before * settings + setting
-
-
-def keeps(law, before, setting):
-    return law == 0 or abs(before - setting) <= 2
 
 
 def legal_cell(rate, distortion):
@@ -80,7 +78,7 @@ def early_refusal(call, scans, settings, law, limits, rates, distortions, plan_l
         return 1, 0
     if not 1 <= settings <= MOST_SETTINGS:
         return 2, 0
-    if law not in (0, 1):
+    if law not in LAWS:
         return 3, 0
     if call == MULTIPLIER:
         n, d = limits
@@ -392,6 +390,37 @@ def worked():
     assert cells(1024, 16) == 261904
 
 
+def lawful():
+    """The laws on every pair of settings, and on table V, of which each law has another plan: 0 then 3 takes the least rate, then 3 then 0,
+    and then, of what law 1 allows, 0 then 2."""
+    for before, setting in itertools.product(range(MOST_SETTINGS), repeat=2):
+        coarser = setting - before
+        assert keeps(0, before, setting)
+        assert keeps(1, before, setting) == (coarser in (-2, -1, 0, 1, 2))
+        assert keeps(2, before, setting) == (coarser < 0 or coarser in (0, 1, 2))
+        assert not any(keeps(law, before, setting) for law in NO_LAWS)
+    v = [5] * 4 + [9, 9, 4, 1] + [9] * 4 + [6, 9, 9, 9] + [2, 9, 9, 9], [1] * 4 + [3] * 16
+    assert [len(ByTryingAll(Table(2, 4, law, *v)).allowed) for law in LAWS] == [16, 14, 15]
+    for maker in (ByTryingAll, ByDynamicProgram):
+
+        def ask(law, call, *limits):
+            number, values, plan, _ = answer(maker, call, 2, 4, law, limits, *v, b"\7" * 2, b"\7" * 8)
+            return number, values, tuple(plan)
+
+        for law, plan, rate in ((0, (0, 3), 6), (1, (0, 2), 9), (2, (3, 0), 7)):
+            totals = [rate, 4, 3]
+            assert ask(law, CEILING, FORBIDDEN) == ask(law, MULTIPLIER, 1, 1) == (0, totals, plan)
+            for budget in (5, 6, 7, 8, 9):
+                if rate <= budget:
+                    assert ask(law, MINMAX, budget) == (0, [3] + totals, plan)
+                    assert ask(law, AVERAGE, budget) == (0, [0, 1] + totals + [4], plan)
+                else:
+                    assert ask(law, MINMAX, budget) == ask(law, AVERAGE, budget) == (9, [0], (7, 7))
+        for law in NO_LAWS:
+            for call, *limits in ((CEILING, 0), (MULTIPLIER, 1, 0), (MINMAX, 0), (AVERAGE, 0)):
+                assert ask(law, call, *limits) == (3, [0], (7, 7))
+
+
 def outcome(maker, call, *limits):
     try:
         return planned(maker, call, limits)
@@ -411,16 +440,17 @@ def agree(table, budgets, ceilings, multipliers):
 
 def main():
     worked()
+    lawful()
     draw = random.Random(20)
     asked = 0
     for _ in range(2000):
-        settings = draw.randint(1, 4)
-        scans = draw.randint(1, {1: 9, 2: 6, 3: 4, 4: 3}[settings])
+        settings = draw.randint(1, 6)
+        scans = draw.randint(1, {1: 9, 2: 6, 3: 4, 4: 3, 5: 3, 6: 2}[settings])
         span = draw.choice([1, 2, 3, 10, 200, MOST_CELL])
         size = cells(scans, settings)
         rates = [FORBIDDEN if draw.random() < 0.15 else draw.randint(0, span) for _ in range(size)]
         distortions = [draw.randint(0, draw.choice([span, 3])) for _ in range(size)]
-        table = Table(scans, settings, draw.randint(0, 1), rates, distortions)
+        table = Table(scans, settings, draw.choice(LAWS), rates, distortions)
         budgets = [0, 2 ** 64 - 1] + [draw.randint(0, (span + 1) * scans) for _ in range(3)]
         multipliers = [(0, 1), (1, 1), (MOST_TERM, 1), (1, MOST_TERM), (draw.randint(0, 9), draw.randint(1, 9))]
         asked += agree(table, budgets, [0, draw.choice(distortions), draw.randint(0, span), FORBIDDEN], multipliers)

@@ -15,7 +15,6 @@ use Rattle.legal.proofs.LegalLaws.{lowest-illegal-unique, not-both}
 use Rattle.tables.specs.declared.refusal.Refusal.{Refusal}
 use Rattle.tables.specs.declared.refusal.Refusal.the-variants as refusal
 use Rattle.tables.specs.Limits.{most-scans, most-settings, most-term}
-use Rattle.tables.specs.Law.{law-out}
 use Rattle.tables.specs.Tables.{cells, scratch-need}
 use Rattle.checks.specs.declared.stage.Stage.{Stage}
 use Rattle.checks.specs.declared.stage.Stage.the-variants.{Stopped}
@@ -57,13 +56,13 @@ size-checks a =
 
 -- the checks 1 to 3
 abbrev pub range-refusal : Asked → Option Refusal
-range-refusal a = first-refusal (range-checks most-scans (a .N) (a .Q) (law-out (a .law)))
+range-refusal a = first-refusal (range-checks most-scans (a .N) (a .Q) (a .lawless))
 
 -- what the checks 1 to 6 leave
 pub record Admitted (further : Option Refusal) (a : Asked) : Type 0 where
   pub scans : scans-out (a .N) ≡ false
   pub settings : settings-out (a .Q) ≡ false
-  pub law : law-out (a .law) ≡ false
+  pub law : a .lawless ≡ false
   pub further-passed : further ≡ none
   pub lengths : lengths-out (a .N) (a .Q) (a .rates) (a .distortions) ≡ false
   pub buffers : buffers-short (a .N) (a .Q) (a .plan) (a .scratch) ≡ false
@@ -72,7 +71,7 @@ module _ (further : Option Refusal) (a : Asked) where
   -- the checks 1 to 6 are 1 to 3, the further one, and 5 and 6
   early-parts : early-refusal further a ≡ or-else (range-refusal a) (or-else further (first-refusal (size-checks a)))
   unfolding early-refusal
-  early-parts = first-append (range-checks most-scans (a .N) (a .Q) (law-out (a .law))) (further ∷ size-checks a)
+  early-parts = first-append (range-checks most-scans (a .N) (a .Q) (a .lawless)) (further ∷ size-checks a)
 
   -- each of the three, where those before it have passed
   stops-at-range : {r : Refusal} → range-refusal a ≡ some r → Unsound further a r
@@ -105,7 +104,7 @@ module _ {further : Option Refusal} {a : Asked} where
   pub admitted : early-refusal further a ≡ none → Admitted further a
   unfolding early-refusal
   admitted e =
-      let p = all-pass (range-checks most-scans (a .N) (a .Q) (law-out (a .law)) ++ (further ∷ size-checks a)) e in
+      let p = all-pass (range-checks most-scans (a .N) (a .Q) (a .lawless) ++ (further ∷ size-checks a)) e in
       record {
         scans = none-when _ _ (p .0);
         settings = none-when _ _ (p .1 .0);
@@ -140,7 +139,7 @@ module _ {further : Option Refusal} {a : Asked} where
   pub sound-plan : Sound further a → a .N ≤ a .plan
   sound-plan s = long-enough (admitted (s .passed)) .0
 
-  pub sound-law : Sound further a → law-out (a .law) ≡ false
+  pub sound-law : Sound further a → a .lawless ≡ false
   sound-law s = admitted (s .passed) .law
 
   pub sound-further : Sound further a → further ≡ none
@@ -169,12 +168,12 @@ pub early-gives : (P : Refusal → Type 0) (further : Option Refusal) (a : Asked
     Gives P further → P refusal.Lengths → P refusal.Buffer → Gives P (early-refusal further a)
 unfolding early-refusal
 early-gives P further a one two three f five six =
-    gives-first P (range-checks most-scans (a .N) (a .Q) (law-out (a .law)) ++ (further ∷ size-checks a)) (
+    gives-first P (range-checks most-scans (a .N) (a .Q) (a .lawless) ++ (further ∷ size-checks a)) (
       gives-when P (scans-out (a .N)) refusal.Scans one,
       (
         gives-when P (settings-out (a .Q)) refusal.Settings two,
         (
-          gives-when P (law-out (a .law)) refusal.StepLaw three,
+          gives-when P (a .lawless) refusal.StepLaw three,
           (
             f,
             (

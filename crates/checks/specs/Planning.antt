@@ -10,8 +10,8 @@ use Rattle.criteria.specs.Choice.{Problem}
 use Rattle.tables.specs.declared.refusal.Refusal.{Refusal}
 use Rattle.tables.specs.declared.refusal.Refusal.the-variants as refusal
 use Rattle.tables.specs.Limits.{most-scans, most-settings, most-term, most-channels}
-use Rattle.tables.specs.Law.{law-out}
-use Rattle.tables.specs.Tables.{cells, scratch-need, table, planning}
+use Rattle.tables.specs.Law.{Law, law-of, law-out}
+use Rattle.tables.specs.Tables.{Table, cells, scratch-need, table-under, planning}
 use Rattle.tables.specs.Legal.{AllLegal, LowestIllegal}
 use Rattle.checks.specs.Checks.{zero-or-over, when, first-refusal}
 
@@ -50,22 +50,31 @@ abbrev pub planning-checks : (most N Q : ℕ) (lawless : Bool) → Option Refusa
 planning-checks most N Q lawless further lengths buffers =
     range-checks most N Q lawless ++ (further ∷ when lengths refusal.Lengths ∷ when buffers refusal.Buffer ∷ [])
 
--- What a planning call is asked, but for its limit: the numbers, the tables and the lengths of the lent buffers.
-pub record Asked : Type 0 where
+-- What a planning call is asked, but for its limit: the numbers, the tables and the lengths of the lent buffers. Of its law it holds which
+-- pairs it allows, and whether it is none of those that the call takes; no number, so what is said of questions is said of any law.
+pub record Asked : Type 1 where
   pub N : ℕ
   pub Q : ℕ
-  pub law : ℕ
+  pub lawless : Bool
+  pub law : Law
   pub rates : List ℕ
   pub distortions : List ℕ
   pub plan : ℕ
   pub scratch : ℕ
 
+abbrev pub asking-under : (lawless : Bool) (law : Law) (N Q : ℕ) (rates distortions : List ℕ) (plan scratch : ℕ) → Asked
+asking-under lawless law N Q rates distortions plan scratch =
+    record { N = N; Q = Q; lawless = lawless; law = law; rates = rates; distortions = distortions; plan = plan; scratch = scratch }
+
+-- .. with its law by number
 abbrev pub asking : (N Q law : ℕ) (rates distortions : List ℕ) (plan scratch : ℕ) → Asked
-asking N Q law rates distortions plan scratch =
-    record { N = N; Q = Q; law = law; rates = rates; distortions = distortions; plan = plan; scratch = scratch }
+asking N Q law rates distortions plan scratch = asking-under (law-out law) (law-of law) N Q rates distortions plan scratch
+
+abbrev pub table-of : Asked → Table
+table-of a = table-under (a .law) (a .N) (a .Q) (a .rates) (a .distortions)
 
 abbrev pub problem-of : Asked → Problem
-problem-of a = planning (table (a .N) (a .Q) (a .law) (a .rates) (a .distortions))
+problem-of a = planning (table-of a)
 
 -- check 4 of a multiplier call; every other call has none there
 abbrev pub fourth-check : ℕ → ℕ → Option Refusal
@@ -74,7 +83,7 @@ fourth-check n d = when (multiplier-out n d) refusal.Multiplier
 -- the first refusal of the checks 1 to 6
 unfoldable pub early-refusal : Option Refusal → Asked → Option Refusal
 early-refusal further a =
-    first-refusal (planning-checks most-scans (a .N) (a .Q) (law-out (a .law)) further (lengths-out (a .N) (a .Q) (a .rates) (a .distortions))
+    first-refusal (planning-checks most-scans (a .N) (a .Q) (a .lawless) further (lengths-out (a .N) (a .Q) (a .rates) (a .distortions))
     (buffers-short (a .N) (a .Q) (a .plan) (a .scratch)))
 
 -- one of the checks 1 to 7 fails, and this is the refusal of the first that does

@@ -7,7 +7,7 @@ use legal::Legality;
 use legal::judge;
 use tables::cells::count;
 use tables::cells::scratch_need;
-use tables::law::unknown;
+use tables::law::no_law;
 use tables::limits::MOST_SCANS;
 use tables::refusal::Refusal;
 ghost use mathlib.Core.Path.{_≡_};
@@ -63,7 +63,7 @@ pub fn check(
 ) -> Stage
     ensures { λ r. ⌜ CheckedAs (ended further) (asking scans settings law (now (rates .entry)) (now (distortions .entry)) plan scratch) (ended r) ⌝ }
 {
-    let ranged = ranges(MOST_SCANS, scans, settings, unknown(law));
+    let ranged = ranges(MOST_SCANS, scans, settings, no_law(law));
     let Stage::Passed = ranged else {
         return ranged;
     };

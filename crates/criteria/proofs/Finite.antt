@@ -57,13 +57,17 @@ module _ (P : Problem) (fin : Finite P) where
       result (found s c f) = (s, record { one = c; ahead = λ t c. f t (fin .complete t (sub t c)) c })
       result (nothing f) = absurd (f t (fin .complete t (sub t c)) c)
 
-  -- some sequence is allowed, or none is
-  pub some-or-none : ((t : List ℕ) × P .allowed t) ⊎ NoneAllowed P
-  some-or-none = result (find (P .allowed) (fin .decide) (λ t. 0) (λ t. 0) (fin .all))
+  -- there is one of them, or there is none
+  pub some-of : (C : List ℕ → Type 0) → ((t : List ℕ) → Dec (C t)) → ((t : List ℕ) → C t → P .allowed t) → ((t : List ℕ) × C t) ⊎ ((t : List ℕ) → C t → ⊥)
+  some-of C C? sub = result (find C C? (λ t. 0) (λ t. 0) (fin .all))
     where
-      result : Found (P .allowed) (fin .decide) (λ t. 0) (λ t. 0) (fin .all) → ((t : List ℕ) × P .allowed t) ⊎ NoneAllowed P
+      result : Found C C? (λ t. 0) (λ t. 0) (fin .all) → ((t : List ℕ) × C t) ⊎ ((t : List ℕ) → C t → ⊥)
       result (found s c f) = inl (s, c)
-      result (nothing f) = inr (λ t a. f t (fin .complete t a) a)
+      result (nothing f) = inr (λ t c. f t (fin .complete t (sub t c)) c)
+
+  -- so some sequence is allowed, or none is
+  pub some-or-none : ((t : List ℕ) × P .allowed t) ⊎ NoneAllowed P
+  some-or-none = some-of (P .allowed) (fin .decide) (λ t a. a)
 
   -- no allowed sequence has a k above this
   pub bound : (List ℕ → ℕ) → ℕ

@@ -1,2 +1,3 @@
 -- Every average and every minmax plan that is given can be written, and reads back.
+pub mod KeptLaws
 pub mod CanBeWritten

@@ -1,14 +1,16 @@
 -- The fields of a plan's file, and what is read from it. Assumes nothing.
 use mathlib.Core.Path.{_≡_}
+use mathlib.Core.Bool.{Bool}
 use mathlib.Core.Option.{none}
 use mathlib.Core.List.{List}
 use Prim.Native.Nat.{ℕ, _≤_}
 use lib.ListN.{take}
+use Rattle.tables.specs.Law.{allows, law-out}
 use Rattle.promise.specs.declared.AveragePlan.{AveragePlan}
 use Rattle.promise.specs.declared.MinmaxPlan.{MinmaxPlan}
 use Rattle.rules.specs.declared.Fields.{Fields}
 use Rattle.blocks.specs.File.{file-of, entry-at}
-use Rattle.planfile.specs.Reading.{fields-of, read-refusal, entries}
+use Rattle.planfile.specs.Reading.{fields-of, read-refusal-under, entries}
 
 -- "kind, 0 average": N, Q, law and B of the call, and what the plan holds
 abbrev pub average-fields : (N Q law B : ℕ) → AveragePlan → Fields
@@ -43,8 +45,12 @@ minmax-fields N Q law B m = record {
 }
 
 -- what is read from the file of these fields and settings: the fields, the first N settings, and no refusal where the settings buffer has
--- room for N
-pub record ReadsBack (f : Fields) (settings : List ℕ) : Type 0 where
+-- room for N; of the law, whether it is none that a file may carry, and a test of it
+pub record ReadsBackUnder (lawless : Bool) (test : ℕ → ℕ → Bool) (f : Fields) (settings : List ℕ) : Type 0 where
   pub fields : fields-of (file-of f settings) ≡ f
   pub settings-read : entries (entry-at (file-of f settings)) 0 (f .scans) ≡ take (f .scans) settings
-  pub unrefused : (room : ℕ) → f .scans ≤ room → read-refusal (file-of f settings) room ≡ none
+  pub unrefused : (room : ℕ) → f .scans ≤ room → read-refusal-under lawless test (file-of f settings) room ≡ none
+
+-- .. with the law by the number that stands in the file
+abbrev pub ReadsBack : Fields → List ℕ → Type 0
+ReadsBack f settings = let law = fields-of (file-of f settings) .law in ReadsBackUnder (law-out law) (allows law) f settings

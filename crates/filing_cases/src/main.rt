@@ -1,4 +1,4 @@
-// The average and the minmax plans of table T, and of table U, at some budgets, filed: each line is the number that comes
+// The average and the minmax plans of tables T and U under law 0, and of table V under laws 0 to 3, at some budgets, filed: each line is the number that comes
 // back from the planning call (0: a plan), and for a plan the length of its file and every byte of the buffer that the file was written to.
 // What it must write was made by tests/second/filing_vectors.py.
 use filing::average_fields;
@@ -40,13 +40,13 @@ fn put_filed(fields: Fields, plan: &[u8]) {
     end_line();
 }
 
-fn average(scans: u64, settings: u64, budget: u64, rates: &[u32], distortions: &[u32]) {
+fn average(scans: u64, settings: u64, law: u64, budget: u64, rates: &[u32], distortions: &[u32]) {
     let mut plan = [0u8; 2];
-    let mut scratch = [0u8; 4];
+    let mut scratch = [0u8; 8];
     let answer = average_plan(
         scans,
         settings,
-        0,
+        law,
         budget,
         rates,
         distortions,
@@ -55,7 +55,7 @@ fn average(scans: u64, settings: u64, budget: u64, rates: &[u32], distortions: &
     );
     match answer {
         AverageAnswer::Planned(m) => put_filed(
-            average_fields(scans, settings, 0, budget, m),
+            average_fields(scans, settings, law, budget, m),
             &plan,
         ),
         AverageAnswer::Refused(r) => {
@@ -65,13 +65,13 @@ fn average(scans: u64, settings: u64, budget: u64, rates: &[u32], distortions: &
     }
 }
 
-fn minmax(scans: u64, settings: u64, budget: u64, rates: &[u32], distortions: &[u32]) {
+fn minmax(scans: u64, settings: u64, law: u64, budget: u64, rates: &[u32], distortions: &[u32]) {
     let mut plan = [0u8; 2];
-    let mut scratch = [0u8; 4];
+    let mut scratch = [0u8; 8];
     let answer = minmax_plan(
         scans,
         settings,
-        0,
+        law,
         budget,
         rates,
         distortions,
@@ -79,7 +79,10 @@ fn minmax(scans: u64, settings: u64, budget: u64, rates: &[u32], distortions: &[
         &mut scratch,
     );
     match answer {
-        MinmaxAnswer::Planned(m) => put_filed(minmax_fields(scans, settings, 0, budget, m), &plan),
+        MinmaxAnswer::Planned(m) => put_filed(
+            minmax_fields(scans, settings, law, budget, m),
+            &plan,
+        ),
         MinmaxAnswer::Refused(r) => {
             put_refusal(r);
             end_line();
@@ -87,21 +90,69 @@ fn minmax(scans: u64, settings: u64, budget: u64, rates: &[u32], distortions: &[
     }
 }
 
-fn both(scans: u64, settings: u64, budget: u64, rates: &[u32], distortions: &[u32]) {
-    average(scans, settings, budget, rates, distortions);
-    minmax(scans, settings, budget, rates, distortions);
+fn both(scans: u64, settings: u64, law: u64, budget: u64, rates: &[u32], distortions: &[u32]) {
+    average(scans, settings, law, budget, rates, distortions);
+    minmax(scans, settings, law, budget, rates, distortions);
 }
 
 fn table_t(budget: u64) {
     let rates = [10u32, 4, 8, 3, 9, 5];
     let distortions = [2u32, 7, 3, 6, 4, 10];
-    both(2, 2, budget, &rates, &distortions);
+    both(2, 2, 0, budget, &rates, &distortions);
 }
 
 fn table_u(budget: u64) {
     let rates = [9u32, 6, 2];
     let distortions = [0u32, 8, 10];
-    both(1, 3, budget, &rates, &distortions);
+    both(1, 3, 0, budget, &rates, &distortions);
+}
+
+fn table_v(law: u64, budget: u64) {
+    let rates = [
+        5u32,
+        5,
+        5,
+        5,
+        9,
+        9,
+        4,
+        1,
+        9,
+        9,
+        9,
+        9,
+        6,
+        9,
+        9,
+        9,
+        2,
+        9,
+        9,
+        9,
+    ];
+    let distortions = [
+        1u32,
+        1,
+        1,
+        1,
+        3,
+        3,
+        3,
+        3,
+        3,
+        3,
+        3,
+        3,
+        3,
+        3,
+        3,
+        3,
+        3,
+        3,
+        3,
+        3,
+    ];
+    both(2, 4, law, budget, &rates, &distortions);
 }
 
 fn main() {
@@ -114,4 +165,10 @@ fn main() {
     table_u(1);
     table_u(7);
     table_u(9);
+    table_v(0, 6);
+    table_v(1, 7);
+    table_v(1, 9);
+    table_v(2, 6);
+    table_v(2, 7);
+    table_v(3, 7);
 }

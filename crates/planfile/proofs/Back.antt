@@ -1,4 +1,5 @@
--- Theorem a: what is written reads back. Assumes nothing.
+-- Theorem a: what is written reads back, whatever test the entries are put to, where the number of the law fits its byte; and where it is a
+-- test of a law, they keep it. Assumes nothing.
 use mathlib.Core.Path.{_≡_, refl, sym, ap, _∙_}
 use mathlib.Core.Bool.{Bool, false, cond}
 use mathlib.Core.Option.{none}
@@ -10,14 +11,17 @@ use lib.Dec.{ltb}
 use lib.ListN.{length, getD, take, length-append}
 use borrow.Author.Tests.{lt-ltb, le-ltb}
 use Rattle.tables.specs.declared.refusal.Refusal.the-variants as refusal
+use Rattle.tables.specs.Law.{Law, Tests, allows, law-out}
+use Rattle.tables.proofs.LawLaws.{known-small}
 use Rattle.rules.specs.declared.Fields.{Fields}
 use Rattle.bytes.specs.Bytes.{le, number-at}
 use Rattle.blocks.specs.File.{header, sealed, entry-of, data-from, data-blocks, file-length, file-of, entry-at, other-length}
-use Rattle.entries.specs.Entries.{entry-broken}
+use Rattle.entries.specs.Entries.{entry-broken, KeepsLaw}
+use Rattle.entries.proofs.EntryLaws.{keeps-law}
 use Rattle.checks.specs.Checks.{when}
 use Rattle.blocks.specs.Blocks.{length-out, block-broken, bad-block}
-use Rattle.planfile.specs.Reading.{fields-of, faults-of, broken-field, bad-entry, read-refusal, entries}
-use Rattle.planfile.specs.Writing.{no-faults, write-refusal}
+use Rattle.planfile.specs.Reading.{fields-of, faults-of, broken-field-under, bad-entry-under, read-refusal-under, read-refusal, entries}
+use Rattle.planfile.specs.Writing.{no-faults, write-refusal-under, write-refusal}
 use Rattle.bytes.proofs.NumberLaws.{value-le}
 use Rattle.planfile.proofs.EntryLaws.{entries-part}
 use Rattle.checks.proofs.CheckLaws.{else-nothing, none-first}
@@ -47,14 +51,14 @@ length-sound f settings = rw (length-back f settings) (length-in (f .scans))
 blocks-back : (f : Fields) (settings : List ℕ) → length (file-of f settings) / 512 ≡ suc (data-blocks (f .scans))
 blocks-back f settings = omega (arith, length-back f settings)
 
-module _ (f : Fields) (settings : List ℕ) (k : Writable f settings) where
+module _ {lawless : Bool} {test : ℕ → ℕ → Bool} (f : Fields) (settings : List ℕ) (k : Writable lawless test f settings) where
   -- the file that is written
   abbrev file : List ℕ
   file = file-of f settings
 
   -- the limits of its fields
   abbrev bounds : Limited f
-  bounds = limited no-faults f (k .rules)
+  bounds = limited lawless no-faults f (k .rules)
 
   -- N reads back
   scans-back : number-at 8 2 file ≡ f .scans
@@ -62,12 +66,12 @@ module _ (f : Fields) (settings : List ℕ) (k : Writable f settings) where
   scans-back = value-le 2 (f .scans) (omega (arith, bounds .scans))
 
   -- all fields read back
-  kept-fields : f .budget < 2 ^ 64 → fields-of file ≡ f
+  kept-fields : f .law < 256 → f .budget < 2 ^ 64 → fields-of file ≡ f
   unfolding fields-of number-at header le
-  kept-fields h = λ i. record {
+  kept-fields l h = λ i. record {
     scans = scans-back i;
     settings = value-le 1 (f .settings) (omega (arith, bounds .settings)) i;
-    law = value-le 1 (f .law) (omega (arith, bounds .law)) i;
+    law = value-le 1 (f .law) (omega (arith, l)) i;
     kind = value-le 1 (f .kind) (omega (arith, bounds .kind)) i;
     budget = value-le 8 (f .budget) (omega (arith, h)) i;
     n = value-le 4 (f .n) (omega (arith, bounds .n)) i;
@@ -107,9 +111,9 @@ module _ (f : Fields) (settings : List ℕ) (k : Writable f settings) where
           (omega arith))
 
   -- no field breaks its rule
-  kept-rules : f .budget < 2 ^ 64 → broken-field file ≡ none
-  unfolding broken-field
-  kept-rules h = rw (kept-marks, kept-fields h) (rules-pass no-faults f (k .rules))
+  kept-rules : f .law < 256 → f .budget < 2 ^ 64 → broken-field-under lawless file ≡ none
+  unfolding broken-field-under
+  kept-rules l h = rw (kept-marks, kept-fields l h) (rules-pass lawless no-faults f (k .rules))
 
   -- each entry of the data blocks is the one that was written there
   kept-entry : (j : ℕ) → j < 1008 * data-blocks (f .scans) → entry-at file j ≡ entry-of (f .scans) settings j
@@ -127,52 +131,73 @@ module _ (f : Fields) (settings : List ℕ) (k : Writable f settings) where
   kept-filler j h g = kept-entry j g ∙ ap (λ (t : Bool). cond t (getD settings j 0) 0) (le-ltb j (f .scans) h)
 
   -- no entry breaks its rule
-  entry-kept : (j : ℕ) → j < 1008 * data-blocks (f .scans) → entry-broken (f .scans) (f .settings) (f .law) (entry-at file) j ≡ false
+  entry-kept : (j : ℕ) → j < 1008 * data-blocks (f .scans) → entry-broken (f .scans) (f .settings) test (entry-at file) j ≡ false
   unfolding entry-broken
   entry-kept j g = at (decLt j (f .scans))
     where
-      at : Dec (j < f .scans) → entry-broken (f .scans) (f .settings) (f .law) (entry-at file) j ≡ false
+      at : Dec (j < f .scans) → entry-broken (f .scans) (f .settings) test (entry-at file) j ≡ false
       at (yes h) =
-          same-broken (f .scans) (f .settings) (f .law) (entry-at file) (λ j. getD settings j 0) j (kept-setting j h)
+          same-broken (f .scans) (f .settings) test (entry-at file) (λ j. getD settings j 0) j (kept-setting j h)
           (kept-setting (j - 1) (omega arith))
           ∙ k .entries j h
       at (no h) = rw (le-ltb j (f .scans) (omega arith), kept-filler j (omega arith) g) refl
 
   -- and so none is found
-  kept-entries : f .budget < 2 ^ 64 → bad-entry file ≡ none
-  unfolding bad-entry
-  kept-entries h =
+  kept-entries : f .law < 256 → f .budget < 2 ^ 64 → bad-entry-under test file ≡ none
+  unfolding bad-entry-under
+  kept-entries l h =
       let p : length file / 512 - 1 ≡ data-blocks (f .scans) = omega (arith, blocks-back f settings) in
-      rw (kept-fields h, p)
-      (none-first (1008 * data-blocks (f .scans)) (entry-broken (f .scans) (f .settings) (f .law) (entry-at file)) 0
-      (λ i l g. entry-kept i (omega arith)))
+      rw (kept-fields l h, p)
+      (none-first (1008 * data-blocks (f .scans)) (entry-broken (f .scans) (f .settings) test (entry-at file)) 0
+      (λ i m g. entry-kept i (omega arith)))
 
-module _ (f : Fields) (settings : List ℕ) (room : ℕ) (written : write-refusal f settings room ≡ none) where
+module _ (lawless : Bool) (test : ℕ → ℕ → Bool) (f : Fields) (settings : List ℕ) (room : ℕ) (written : write-refusal-under lawless test f settings room ≡ none) where
+  -- what the writer found
+  abbrev found-writable : Writable lawless test f settings
+  found-writable = writable lawless test f settings room written
+
   -- the settings read back
-  pub settings-back : entries (entry-at (file-of f settings)) 0 (f .scans) ≡ take (f .scans) settings
-  settings-back =
-      let k : Writable f settings = writable f settings room written in
-      entries-part (entry-at (file-of f settings)) settings (f .scans) 0 0 (omega (arith, k .enough))
-      (λ i h. let z : 0 + i ≡ i = omega arith in rw z (kept-setting f settings k i h))
+  pub settings-back-under : entries (entry-at (file-of f settings)) 0 (f .scans) ≡ take (f .scans) settings
+  settings-back-under =
+      entries-part (entry-at (file-of f settings)) settings (f .scans) 0 0 (omega (arith, found-writable .enough))
+      (λ i h. let z : 0 + i ≡ i = omega arith in rw z (kept-setting f settings found-writable i h))
 
-  -- every block's number and check is right
-  pub blocks-sound : bad-block (file-of f settings) ≡ none
-  blocks-sound = kept-blocks f settings (writable f settings room written)
+  -- they keep the law, of which the writer had a test
+  pub written-keeps : {law : Law} → Tests test law → KeepsLaw law (f .scans) (f .settings) (λ j. getD settings j 0)
+  written-keeps tests = keeps-law (f .scans) (f .settings) test (λ j. getD settings j 0) tests .0 (found-writable .entries)
 
-  module _ (budget : f .budget < 2 ^ 64) where
+  module _ (byte : f .law < 256) (budget : f .budget < 2 ^ 64) where
     -- the fields read back
-    pub fields-back : fields-of (file-of f settings) ≡ f
-    fields-back = kept-fields f settings (writable f settings room written) budget
-
-    -- no header field breaks its rule
-    pub fields-sound : broken-field (file-of f settings) ≡ none
-    fields-sound = kept-rules f settings (writable f settings room written) budget
-
-    -- no entry or filler breaks its rule
-    pub entries-sound : bad-entry (file-of f settings) ≡ none
-    entries-sound = kept-entries f settings (writable f settings room written) budget
+    pub fields-back-under : fields-of (file-of f settings) ≡ f
+    fields-back-under = kept-fields f settings found-writable byte budget
 
     -- the reader refuses nothing but a buffer that is too short
+    pub read-back-under : (room′ : ℕ) → read-refusal-under lawless test (file-of f settings) room′ ≡ when (ltb room′ (f .scans)) refusal.Buffer
+    unfolding read-refusal-under
+    read-back-under room′ =
+        rw (
+          length-sound f settings,
+          kept-blocks f settings found-writable,
+          kept-rules f settings found-writable byte budget,
+          fields-back-under,
+          kept-entries f settings found-writable byte budget,
+        )
+        (else-nothing (when (ltb room′ (f .scans)) refusal.Buffer))
+
+-- .. and so under every law by its number
+module _ (f : Fields) (settings : List ℕ) (room : ℕ) (written : write-refusal f settings room ≡ none) where
+  pub settings-back : entries (entry-at (file-of f settings)) 0 (f .scans) ≡ take (f .scans) settings
+  settings-back = settings-back-under (law-out (f .law)) (allows (f .law)) f settings room written
+
+  -- the number of a law that is written fits its byte
+  law-fits : f .law < 256
+  law-fits = known-small (f .law) (writable (law-out (f .law)) (allows (f .law)) f settings room written .rules .law)
+
+  module _ (budget : f .budget < 2 ^ 64) where
+    pub fields-back : fields-of (file-of f settings) ≡ f
+    fields-back = fields-back-under (law-out (f .law)) (allows (f .law)) f settings room written law-fits budget
+
     pub read-back : (room′ : ℕ) → read-refusal (file-of f settings) room′ ≡ when (ltb room′ (f .scans)) refusal.Buffer
-    unfolding read-refusal
-    read-back room′ = rw (length-sound f settings, blocks-sound, fields-sound, fields-back, entries-sound) (else-nothing (when (ltb room′ (f .scans)) refusal.Buffer))
+    read-back room′ =
+        ap (λ (g : Fields). read-refusal-under (law-out (g .law)) (allows (g .law)) (file-of f settings) room′) fields-back
+        ∙ read-back-under (law-out (f .law)) (allows (f .law)) f settings room written law-fits budget room′

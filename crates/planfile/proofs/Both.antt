@@ -13,8 +13,8 @@ use Rattle.checks.proofs.CheckLaws.{FirstOf, first-is}
 use Rattle.checks.specs.Checks.{when}
 use Rattle.rules.specs.declared.Fields.{Fields}
 use Rattle.blocks.specs.File.{file-length, file-of, entry-at}
-use Rattle.planfile.specs.Reading.{reader-checks, fields-of, read-refusal, entries}
-use Rattle.planfile.specs.Writing.{writer-checks, write-refusal}
+use Rattle.planfile.specs.Reading.{reader-checks, fields-of, read-refusal-under, read-refusal, entries}
+use Rattle.planfile.specs.Writing.{writer-checks, write-refusal-under, write-refusal}
 use Rattle.bytes.proofs.NumberLaws.{number-small}
 use Rattle.planfile.proofs.Back.{fields-back, settings-back, read-back}
 use Rattle.planfile.proofs.Accepted.{passed, accepted-file, accepted-plan}
@@ -81,11 +81,11 @@ plan-unique file room room′ p q = (same-fields, same-settings)
 
 -- "The reader checks 11, 12, 13, 6, 14": it gives a refusal if and only if it is the first of its checks'.
 pub reader-order : (file : List ℕ) (room : ℕ) (r : Refusal) → (read-refusal file room ≡ some r) ↔ FirstOf (reader-checks file room) r
-unfolding read-refusal
+unfolding read-refusal-under
 reader-order file room r = first-is (reader-checks file room) r
 
 -- "the writer 13, 6, 14": and so does the writer.
 pub writer-order : (f : Fields) (settings : List ℕ) (room : ℕ) (r : Refusal)
     → (write-refusal f settings room ≡ some r) ↔ FirstOf (writer-checks f settings room) r
-unfolding write-refusal
+unfolding write-refusal-under
 writer-order f settings room r = first-is (writer-checks f settings room) r

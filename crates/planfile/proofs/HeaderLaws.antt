@@ -53,7 +53,7 @@ module _ (file : List ℕ) (bytes : Bytes file) where
   run-part s at k e h d = no-difference s (part at k file) (part-length at k file h ∙ sym e) d
 
   -- the header of the fields of block 0 is its first 508 bytes
-  pub header-part : 512 ≤ length file → block-broken file 0 ≡ false → RulesHold (faults-of file) (fields-of file)
+  pub header-part : {lawless : Bool} → 512 ≤ length file → block-broken file 0 ≡ false → RulesHold lawless (faults-of file) (fields-of file)
       → header (fields-of file) ≡ part 0 508 file
   unfolding header fields-of faults-of
   header-part h broken kept =

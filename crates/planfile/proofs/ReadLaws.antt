@@ -15,6 +15,7 @@ use Rattle.tables.specs.declared.refusal.Refusal.the-variants as refusal
 use Rattle.tables.specs.Refusals.{refused, answered}
 use Rattle.checks.specs.Planning.{scans-out}
 use Rattle.laws.proofs.Tests.{neither, never}
+use Rattle.tables.specs.Law.{allows, law-out}
 use Rattle.rules.specs.declared.Fields.{Fields}
 use Rattle.checks.specs.declared.stage.Stage.{Stage}
 use Rattle.checks.specs.declared.stage.Stage.the-variants.{Passed}
@@ -24,7 +25,7 @@ use Rattle.checks.specs.Checks.{when, first-from, found, first-refusal}
 use Rattle.entries.specs.Entries.{entry-broken}
 use Rattle.checks.specs.Stages.{ended}
 use Rattle.blocks.specs.Blocks.{length-out}
-use Rattle.planfile.specs.Reading.{reader-checks, bad-entry, fields-of, faults-of, field-values, entries, read-refusal, read-of, settings-after}
+use Rattle.planfile.specs.Reading.{reader-checks, bad-entry-under, bad-entry, fields-of, faults-of, field-values, entries, read-refusal-under, read-refusal, read-of, settings-after}
 use Rattle.checks.proofs.StageLaws.{passed-none}
 use Rattle.checks.proofs.CheckLaws.{none-when}
 use Rattle.rules.proofs.FieldLaws.{limited}
@@ -34,7 +35,7 @@ use Rattle.planfile.proofs.Accepted.{passed}
 
 -- the reader's stages, as its checks
 pub all-stages : (file : List ℕ) (room : ℕ) → read-refusal file room ≡ first-refusal (reader-checks file room)
-unfolding read-refusal
+unfolding read-refusal-under
 all-stages file room = refl
 
 -- the answer and the settings buffer of a refused file
@@ -83,7 +84,7 @@ unfolding faults-of fields-of number-at
 inside file room e =
     let p = passed file room e in
     let N = fields-of file .scans in
-    let m : N ≤ 1024 = limited (faults-of file) (fields-of file) (p .rules) .scans in
+    let m : N ≤ 1024 = limited (law-out (fields-of file .law)) (faults-of file) (fields-of file) (p .rules) .scans in
     let l : length file ≡ file-length N = right-length (length file) N (neither (scans-out N) (other-length (length file) N) (p .rules .scans) .1) in
     let w = within N m in
     record {
@@ -95,9 +96,9 @@ inside file room e =
 
 -- entries that were checked by fields which are the file's
 pub told-entries : (file : List ℕ) {f : Fields} {o : Option Refusal} → f ≡ fields-of file
-    → o ≡ found refusal.Entry (first-from (entry-broken (f .scans) (f .settings) (f .law) (entry-at file)) 0 (1008 * (length file / 512 - 1)))
+    → o ≡ found refusal.Entry (first-from (entry-broken (f .scans) (f .settings) (allows (f .law)) (entry-at file)) 0 (1008 * (length file / 512 - 1)))
     → o ≡ found refusal.Entry (bad-entry file)
-unfolding bad-entry
+unfolding bad-entry-under
 told-entries file {f} {o} e h =
     h
-    ∙ ap (λ (g : Fields). found refusal.Entry (first-from (entry-broken (g .scans) (g .settings) (g .law) (entry-at file)) 0 (1008 * (length file / 512 - 1)))) e
+    ∙ ap (λ (g : Fields). found refusal.Entry (first-from (entry-broken (g .scans) (g .settings) (allows (g .law)) (entry-at file)) 0 (1008 * (length file / 512 - 1)))) e

@@ -21,8 +21,9 @@ use Rattle.laws.proofs.Stores.{sets-append}
 use Rattle.blocks.proofs.DataLaws.{length-data}
 use Rattle.rules.specs.declared.Fields.{Fields}
 use Rattle.blocks.specs.File.{sealed, data-block, data-from, file-of, file-length}
+use Rattle.tables.specs.Law.{allows, law-out}
 use Rattle.rules.specs.Rules.{header-rules}
-use Rattle.planfile.specs.Writing.{writer-checks, no-faults, write-short, write-refusal, write-of, file-after}
+use Rattle.planfile.specs.Writing.{writer-checks, no-faults, write-short, write-refusal-under, write-refusal, write-of, file-after}
 use Rattle.checks.proofs.CheckLaws.{none-when, none-else}
 use Rattle.rules.proofs.FieldLaws.{rules-hold}
 use Rattle.planfile.proofs.FieldLaws.{writable, entry-small}
@@ -30,7 +31,7 @@ use Rattle.planfile.proofs.Back.{length-back}
 
 -- the writer's stages, as its checks
 pub write-stages : (f : Fields) (settings : List ℕ) (room : ℕ) → write-refusal f settings room ≡ first-refusal (writer-checks f settings room)
-unfolding write-refusal
+unfolding write-refusal-under
 write-stages f settings room = refl
 
 -- the answer and the file buffer of a refused write
@@ -54,8 +55,8 @@ accepted-write f settings file after n q h s e =
     )
 
 -- where the rules are kept, N is in its range
-pub scans-inside : (f : Fields) → first-refusal (header-rules no-faults f) ≡ none → (1 ≤ f .scans) × (f .scans ≤ 1024)
-scans-inside f e = in-range (neither (scans-out (f .scans)) false (rules-hold no-faults f e .scans) .0)
+pub scans-inside : (f : Fields) → first-refusal (header-rules (law-out (f .law)) no-faults f) ≡ none → (1 ≤ f .scans) × (f .scans ≤ 1024)
+scans-inside f e = in-range (neither (scans-out (f .scans)) false (rules-hold (law-out (f .law)) no-faults f e .scans) .0)
 
 -- where the room is enough
 pub room-inside : (N settings room : ℕ) → when (write-short N settings room) refusal.Buffer ≡ none → (N ≤ settings) × (file-length N ≤ room)
@@ -66,9 +67,9 @@ room-inside N settings room e =
 -- where nothing is refused, N is in its range and there is room for N settings and for the file
 pub all-inside : (f : Fields) (settings : List ℕ) (room : ℕ) → write-refusal f settings room ≡ none →
     (f .scans ≤ 1024) × ((f .scans ≤ length settings) × (file-length (f .scans) ≤ room))
-unfolding write-refusal
+unfolding write-refusal-under
 all-inside f settings room e =
-    let a = none-else (first-refusal (header-rules no-faults f)) _ e in
+    let a = none-else (first-refusal (header-rules (law-out (f .law)) no-faults f)) _ e in
     let b = none-else (when (write-short (f .scans) (length settings) room) refusal.Buffer) _ (a .1) in
     (scans-inside f (a .0) .1, room-inside (f .scans) (length settings) room (b .0))
 
@@ -76,7 +77,7 @@ all-inside f settings room e =
 pub settings-small : (f : Fields) (settings : List ℕ) (room : ℕ) → write-refusal f settings room ≡ none → (j : ℕ) → j < f .scans → getD settings j 0 < 16
 settings-small f settings room e j h =
     let t : ltb j (f .scans) ≡ true = lt-ltb j (f .scans) h in
-    rw (ap (λ b. cond b (getD settings j 0) 0) t) at (entry-small f settings (writable f settings room e) j)
+    rw (ap (λ b. cond b (getD settings j 0) 0) t) at (entry-small f settings (writable (law-out (f .law)) (allows (f .law)) f settings room e) j)
 
 -- one data block more, from block b on
 data-snoc : (e : ℕ → ℕ) (b n : ℕ) → data-from e b n ++ sealed (data-block e (b + n)) ≡ data-from e b (suc n)

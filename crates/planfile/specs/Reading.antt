@@ -16,6 +16,7 @@ use Rattle.planfile.specs.declared.read.ReadAnswer.{ReadAnswer}
 use Rattle.planfile.specs.declared.read.ReadAnswer.the-variants.{Read, Refused}
 use Rattle.bytes.specs.Bytes.{part, number-at}
 use Rattle.blocks.specs.File.{letters, entry-at, other-length}
+use Rattle.tables.specs.Law.{allows, law-out}
 use Rattle.rules.specs.Rules.{header-rules}
 use Rattle.entries.specs.Entries.{entry-broken}
 use Rattle.blocks.specs.Blocks.{length-out, bad-block}
@@ -49,27 +50,42 @@ faults-of file = record {
   run_48 = differ (replicate last-run 0) (part 48 last-run file);
 }
 
-unfoldable pub broken-field : List ℕ → Option Refusal
-broken-field file = first-refusal (header-rules (faults-of file) (fields-of file))
+-- What the reader asks of the file's law is whether it is none of those that a file may carry, and a test of it; so the file sentence is of
+-- any law that has a test.
+unfoldable pub broken-field-under : (lawless : Bool) → List ℕ → Option Refusal
+broken-field-under lawless file = first-refusal (header-rules lawless (faults-of file) (fields-of file))
 
 -- 14: "an entry or filler breaks its rule", with "its entry number": all entries of the data blocks
-unfoldable pub bad-entry : List ℕ → Option ℕ
-bad-entry file =
+unfoldable pub bad-entry-under : (ℕ → ℕ → Bool) → List ℕ → Option ℕ
+bad-entry-under test file =
     let f = fields-of file in
-    first-from (entry-broken (f .scans) (f .settings) (f .law) (entry-at file)) 0 (block-entries * (length file / block-size - 1))
+    first-from (entry-broken (f .scans) (f .settings) test (entry-at file)) 0 (block-entries * (length file / block-size - 1))
 
 -- "The reader checks 11, 12, 13, 6, 14"; room is the length of the lent settings buffer
-abbrev pub reader-checks : List ℕ → ℕ → List (Option Refusal)
-reader-checks file room =
+abbrev pub reader-checks-under : (lawless : Bool) → (ℕ → ℕ → Bool) → List ℕ → ℕ → List (Option Refusal)
+reader-checks-under lawless test file room =
     when (length-out (length file)) refusal.FileLength
     ∷ found refusal.Block (bad-block file)
-    ∷ broken-field file
+    ∷ broken-field-under lawless file
     ∷ when (ltb room (fields-of file .scans)) refusal.Buffer
-    ∷ found refusal.Entry (bad-entry file)
+    ∷ found refusal.Entry (bad-entry-under test file)
     ∷ []
 
-unfoldable pub read-refusal : List ℕ → ℕ → Option Refusal
-read-refusal file room = first-refusal (reader-checks file room)
+unfoldable pub read-refusal-under : (lawless : Bool) → (ℕ → ℕ → Bool) → List ℕ → ℕ → Option Refusal
+read-refusal-under lawless test file room = first-refusal (reader-checks-under lawless test file room)
+
+-- "Plan files may carry 2 in byte 11": .. with the law whose number stands there
+abbrev pub broken-field : List ℕ → Option Refusal
+broken-field file = broken-field-under (law-out (fields-of file .law)) file
+
+abbrev pub bad-entry : List ℕ → Option ℕ
+bad-entry file = bad-entry-under (allows (fields-of file .law)) file
+
+abbrev pub reader-checks : List ℕ → ℕ → List (Option Refusal)
+reader-checks file room = reader-checks-under (law-out (fields-of file .law)) (allows (fields-of file .law)) file room
+
+abbrev pub read-refusal : List ℕ → ℕ → Option Refusal
+read-refusal file room = read-refusal-under (law-out (fields-of file .law)) (allows (fields-of file .law)) file room
 
 -- scans, settings, law, kind, budget, n, d, rate, distortion, peak, floor
 abbrev pub field-values : Fields → List ℕ

@@ -14,6 +14,7 @@ use Rattle.rules.specs.declared.Fields.{Fields}
 use Rattle.planfile.specs.declared.write.WriteAnswer.{WriteAnswer}
 use Rattle.planfile.specs.declared.write.WriteAnswer.the-variants.{Written, Refused}
 use Rattle.blocks.specs.File.{file-of, file-length}
+use Rattle.tables.specs.Law.{allows, law-out}
 use Rattle.rules.specs.Rules.{header-rules}
 use Rattle.entries.specs.Entries.{entry-broken}
 
@@ -25,16 +26,23 @@ no-faults = record { letters = false; length = false; run_13 = false; run_48 = f
 abbrev pub write-short : (N settings file : ℕ) → Bool
 write-short N settings file = ltb settings N || ltb file (file-length N)
 
--- "the writer 13, 6, 14"; room is the length of the lent file buffer
-abbrev pub writer-checks : Fields → List ℕ → ℕ → List (Option Refusal)
-writer-checks f settings room =
-    first-refusal (header-rules no-faults f)
+-- "the writer 13, 6, 14"; room is the length of the lent file buffer. Of the law it asks what the reader asks.
+abbrev pub writer-checks-under : (lawless : Bool) → (ℕ → ℕ → Bool) → Fields → List ℕ → ℕ → List (Option Refusal)
+writer-checks-under lawless test f settings room =
+    first-refusal (header-rules lawless no-faults f)
     ∷ when (write-short (f .scans) (length settings) room) refusal.Buffer
-    ∷ found refusal.Entry (first-from (entry-broken (f .scans) (f .settings) (f .law) (λ j. getD settings j 0)) 0 (f .scans))
+    ∷ found refusal.Entry (first-from (entry-broken (f .scans) (f .settings) test (λ j. getD settings j 0)) 0 (f .scans))
     ∷ []
 
-unfoldable pub write-refusal : Fields → List ℕ → ℕ → Option Refusal
-write-refusal f settings room = first-refusal (writer-checks f settings room)
+unfoldable pub write-refusal-under : (lawless : Bool) → (ℕ → ℕ → Bool) → Fields → List ℕ → ℕ → Option Refusal
+write-refusal-under lawless test f settings room = first-refusal (writer-checks-under lawless test f settings room)
+
+-- .. with the law by its number
+abbrev pub writer-checks : Fields → List ℕ → ℕ → List (Option Refusal)
+writer-checks f settings room = writer-checks-under (law-out (f .law)) (allows (f .law)) f settings room
+
+abbrev pub write-refusal : Fields → List ℕ → ℕ → Option Refusal
+write-refusal f settings room = write-refusal-under (law-out (f .law)) (allows (f .law)) f settings room
 
 unfoldable pub write-of : Fields → List ℕ → ℕ → Reply
 write-of f settings room = or-answer (write-refusal f settings room) (file-length (f .scans) ∷ [])

@@ -6,7 +6,8 @@ use Prim.Native.Nat.{ℕ, _≤_}
 use native.Mathlib.Omega.{arith}
 use Rattle.criteria.specs.Choice.{Problem, Ceiling}
 use Rattle.tables.specs.Limits.{most-cell}
-use Rattle.tables.specs.Tables.{table, planning}
+use Rattle.tables.specs.Law.{Law}
+use Rattle.tables.specs.Tables.{table-under, planning}
 use Rattle.walk.specs.declared.Totals.{Totals}
 use Rattle.trellis.specs.Choices.{chosen}
 use Rattle.checks.specs.Fit.{Fit}
@@ -16,8 +17,8 @@ use Rattle.search.specs.Search.{SomeFits, LeastCeiling}
 use Rattle.seek.proofs.SeekLaws.{peak-fits}
 
 -- the least-rate plan's peak is a ceiling under which something fits
-pub peak-bound : (law : ℕ) {N Q room B : ℕ} {rates distortions : List ℕ} {t : Totals} → Fit N Q rates distortions room →
-    ThriftyTotals (planning (table N Q law rates distortions)) B t → t .peak ≤ most-cell
+pub peak-bound : (law : Law) {N Q room B : ℕ} {rates distortions : List ℕ} {t : Totals} → Fit N Q rates distortions room →
+    ThriftyTotals (planning (table-under law N Q rates distortions)) B t → t .peak ≤ most-cell
 peak-bound law fit h = omega (arith, h .totals .peak, peak-fits law fit (h .plan) (h .thriftiest .one))
 
 pub thrifty-fits : {P : Problem} {B X : ℕ} {t : Totals} → X ≡ t .peak → ThriftyTotals P B t → SomeFits P B X

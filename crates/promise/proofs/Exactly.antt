@@ -16,6 +16,7 @@ use Rattle.laws.proofs.Tests.{never}
 use Rattle.promise.specs.declared.PlanAnswer.{PlanAnswer}
 use Rattle.promise.specs.declared.MinmaxAnswer.{MinmaxAnswer}
 use Rattle.promise.specs.declared.AverageAnswer.{AverageAnswer}
+use Rattle.promise.specs.Says.{SaysExactly}
 use Rattle.promise.specs.Promise.{Promise, unsound, no-sequence, none-within, planned, plan-reply, minmax-reply, average-reply, CeilingPromise, MultiplierPromise, MinmaxPromise, AveragePromise}
 use Rattle.promise.proofs.Unique.{ceiling-within, multiplier-within, minmax-within, average-within}
 use Rattle.checks.proofs.PlanningLaws.{sound-or-not, early-gives}
@@ -88,32 +89,30 @@ multiplier-never-nine n d r (no-sequence o w e f g) h = omega (arith, still-nine
 multiplier-never-nine n d r (none-within o w e f g) h = w .none-within (w .exist .0) (w .exist .1)
 multiplier-never-nine n d r (planned o t v q e f g) h = omega (arith, still-nine e h)
 
--- 8 exactly when no sequence is allowed, of a multiplier call
-pub multiplier-eight-exactly : {a : Asked} (n d : ℕ) {plan scratch p s : List ℕ} (r : PlanAnswer) → MultiplierPromise a n d plan scratch r p s →
-    (plan-reply r ≡ refused refusal.NoSequence) ↔ (Sound (fourth-check n d) a × NoneAllowed (problem-of a))
-multiplier-eight-exactly {a} n d r h = eight-exactly (fourth-early n d) (multiplier-within (problem-of a) n d) h
-
--- .. and both of the calls with a limit
-pub record SaysExactly (a : Asked) (within : List ℕ → Type 0) (reply : Reply) : Type 0 where
-  pub eight : (reply ≡ refused refusal.NoSequence) ↔ (Sound none a × NoneAllowed (problem-of a))
-  pub nine : (reply ≡ refused refusal.NoneWithin) ↔ (Sound none a × NoneWithin (problem-of a) within)
+-- Both of each call. A multiplier is no limit, so of its call the second is never so.
+pub multiplier-exactly : {a : Asked} (n d : ℕ) {plan scratch p s : List ℕ} (r : PlanAnswer) → MultiplierPromise a n d plan scratch r p s →
+    SaysExactly (fourth-check n d) a (problem-of a .allowed) (plan-reply r)
+multiplier-exactly {a} n d r h = record {
+  eight = eight-exactly (fourth-early n d) (multiplier-within (problem-of a) n d) h;
+  nine = nine-exactly (fourth-early n d) (multiplier-within (problem-of a) n d) h;
+}
 
 pub ceiling-exactly : {a : Asked} (X : ℕ) {plan scratch p s : List ℕ} (r : PlanAnswer) → CeilingPromise a X plan scratch r p s →
-    SaysExactly a (UnderCeiling (problem-of a) X) (plan-reply r)
+    SaysExactly none a (UnderCeiling (problem-of a) X) (plan-reply r)
 ceiling-exactly {a} X r h = record {
   eight = eight-exactly none-early (ceiling-within (problem-of a) X) h;
   nine = nine-exactly none-early (ceiling-within (problem-of a) X) h;
 }
 
 pub minmax-exactly : {a : Asked} (B : ℕ) {plan scratch p s : List ℕ} (r : MinmaxAnswer) → MinmaxPromise a B plan scratch r p s →
-    SaysExactly a (InBudget (problem-of a) B) (minmax-reply r)
+    SaysExactly none a (InBudget (problem-of a) B) (minmax-reply r)
 minmax-exactly {a} B r h = record {
   eight = eight-exactly none-early (minmax-within (problem-of a) B) h;
   nine = nine-exactly none-early (minmax-within (problem-of a) B) h;
 }
 
 pub average-exactly : {a : Asked} (B : ℕ) {plan scratch p s : List ℕ} (r : AverageAnswer) → AveragePromise a B plan scratch r p s →
-    SaysExactly a (InBudget (problem-of a) B) (average-reply r)
+    SaysExactly none a (InBudget (problem-of a) B) (average-reply r)
 average-exactly {a} B r h = record {
   eight = eight-exactly none-early (average-within (problem-of a) B) h;
   nine = nine-exactly none-early (average-within (problem-of a) B) h;

@@ -6,9 +6,8 @@ use Rattle.criteria.specs.Choice.{NoneWithin}
 use Rattle.criteria.proofs.Agree.{Agree, ceiling-agrees, multiplier-agrees, average-agrees, average-floor-agrees, minmax-agrees, none-allowed-agrees, none-under-ceiling-agrees, none-in-budget-agrees}
 use Rattle.tables.specs.declared.refusal.Refusal.{Refusal}
 use Rattle.tables.specs.Refusals.{Reply}
-use Rattle.tables.specs.Tables.{table}
 use Rattle.tables.specs.Legal.{SameShown}
-use Rattle.checks.specs.Planning.{Asked, Unsound, early, illegal, Sound, early-refusal, problem-of}
+use Rattle.checks.specs.Planning.{Asked, Unsound, early, illegal, Sound, early-refusal, asking-under, table-of, problem-of}
 use Rattle.tables.proofs.Hidden.{shown-agrees, all-legal-same, lowest-illegal-same}
 use Rattle.promise.specs.declared.PlanAnswer.{PlanAnswer}
 use Rattle.promise.specs.declared.MinmaxAnswer.{MinmaxAnswer}
@@ -19,10 +18,10 @@ use mathlib.Core.Option.{Option}
 -- No answer depends on a distortion beside a forbidden rate: what is promised of one table is promised of the other.
 module _ (a : Asked) (D : List ℕ) (shown : SameShown (a .rates) (a .distortions) D) where
   abbrev other : Asked
-  other = record { N = a .N; Q = a .Q; law = a .law; rates = a .rates; distortions = D; plan = a .plan; scratch = a .scratch }
+  other = asking-under (a .lawless) (a .law) (a .N) (a .Q) (a .rates) D (a .plan) (a .scratch)
 
   same : Agree (problem-of a) (problem-of other)
-  same = shown-agrees (table (a .N) (a .Q) (a .law) (a .rates) (a .distortions)) D shown
+  same = shown-agrees (table-of a) D shown
 
   early-same : (further : Option Refusal) → early-refusal further a ≡ early-refusal further other
   unfolding early-refusal

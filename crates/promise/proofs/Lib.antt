@@ -4,3 +4,4 @@ pub mod Exactly
 pub mod Demands
 pub mod Sizes
 pub mod Hidden
+pub mod Exist

@@ -12,7 +12,6 @@ use Rattle.tables.specs.declared.refusal.Refusal.{Refusal}
 use Rattle.tables.specs.declared.refusal.Refusal.the-variants as refusal
 use Rattle.tables.specs.Refusals.{Reply, numberOf}
 use Rattle.tables.specs.Limits.{most-scans}
-use Rattle.tables.specs.Law.{law-out}
 use Rattle.tables.specs.Tables.{cells, scratch-need}
 use Rattle.checks.specs.Checks.{when}
 use Rattle.checks.specs.Planning.{Asked, Unsound, early, illegal, early-refusal, range-checks, scans-out, settings-out, lengths-out, buffers-short, multiplier-out, fourth-check}
@@ -58,12 +57,12 @@ gives-not P false r e = tt
 first-not-by-size : {further : Option Refusal} {a : Asked} {r : Refusal} → Gives NotBySize further → SizesFit a → Unsound further a r → NotBySize r
 unfolding early-refusal
 first-not-by-size {further} {a} f s (early e) =
-    given NotBySize (gives-first NotBySize (range-checks most-scans (a .N) (a .Q) (law-out (a .law)) ++ (further ∷ size-checks a)) (
+    given NotBySize (gives-first NotBySize (range-checks most-scans (a .N) (a .Q) (a .lawless) ++ (further ∷ size-checks a)) (
       gives-when NotBySize (scans-out (a .N)) refusal.Scans (below-five (omega arith)),
       (
         gives-when NotBySize (settings-out (a .Q)) refusal.Settings (below-five (omega arith)),
         (
-          gives-when NotBySize (law-out (a .law)) refusal.StepLaw (below-five (omega arith)),
+          gives-when NotBySize (a .lawless) refusal.StepLaw (below-five (omega arith)),
           (
             f,
             (

@@ -1,2 +1,3 @@
 -- What the planning calls promise.
 pub mod Promise
+pub mod Says

@@ -17,6 +17,7 @@ use Rattle.checks.specs.Planning.{Asked, Unsound, early, illegal, channels-out,
 use Rattle.checks.proofs.GiveLaws.{Gives, given, gives-when, gives-else, gives-first, gives-found}
 use Rattle.checks.proofs.PlanningLaws.{early-gives, admitted, lengths-exact, sound-fit, sound-plan}
 use Rattle.rules.proofs.FieldLaws.{rules-give}
+use Rattle.tables.specs.Law.{allows, law-out}
 use Rattle.rules.specs.Rules.{header-rules}
 use Rattle.rules.specs.declared.Faults.{Faults}
 use Rattle.checks.specs.Checks.{first-refusal, or-else, or-answer, first-from, found, when}
@@ -29,8 +30,8 @@ use Rattle.rules.specs.declared.Fields.{Fields}
 use Rattle.blocks.specs.File.{entry-at, file-length}
 use Rattle.entries.specs.Entries.{entry-broken}
 use Rattle.blocks.specs.Blocks.{length-out, block-broken, bad-block}
-use Rattle.planfile.specs.Reading.{bad-entry, broken-field, fields-of, faults-of, read-refusal, read-of, field-values}
-use Rattle.planfile.specs.Writing.{no-faults, write-short, write-refusal, write-of}
+use Rattle.planfile.specs.Reading.{bad-entry-under, broken-field-under, read-refusal-under, bad-entry, broken-field, fields-of, faults-of, read-refusal, read-of, field-values}
+use Rattle.planfile.specs.Writing.{no-faults, write-short, write-refusal-under, write-refusal, write-of}
 use Rattle.checks.proofs.CheckLaws.{none-else, none-when}
 use Rattle.planfile.proofs.ReadLaws.{two-lengths}
 use Rattle.planfile.proofs.WriteLaws.{scans-inside}
@@ -46,8 +47,8 @@ abbrev pub Little : Refusal → Type 0
 Little r = carriedBy r < 2 ^ 32
 
 -- the refusals of each call
-rules-light : (m : Faults) (f : Fields) → Gives Little (first-refusal (header-rules m f))
-rules-light m f = rules-give Little m f (λ byte h. omega arith)
+rules-light : (lawless : Bool) (m : Faults) (f : Fields) → Gives Little (first-refusal (header-rules lawless m f))
+rules-light lawless m f = rules-give Little lawless m f (λ byte h. omega arith)
 
 pub room-light : (C N Q : ℕ) → Gives Little (first-refusal (room-checks C N Q))
 room-light C N Q = gives-first Little (room-checks C N Q) (
@@ -57,24 +58,24 @@ room-light C N Q = gives-first Little (room-checks C N Q) (
 
 -- a block's number is below 3, and an entry's below 2,016
 pub read-light : (file : List ℕ) (room : ℕ) → Gives Little (read-refusal file room)
-unfolding read-refusal broken-field bad-block bad-entry
+unfolding read-refusal-under broken-field-under bad-block bad-entry-under
 read-light file room =
     gives-else Little (when (length-out (length file)) refusal.FileLength) _ (gives-when Little (length-out (length file)) refusal.FileLength (omega arith)) (λ e.
     let n = two-lengths (length file) (none-when (length-out (length file)) refusal.FileLength e) in
     gives-else Little (found refusal.Block (bad-block file)) _
     (gives-found Little (length file / 512) refusal.Block (block-broken file) 0 (λ i h. omega arith)) (λ f.
-    gives-else Little (broken-field file) _ (rules-light (faults-of file) (fields-of file)) (λ g.
+    gives-else Little (broken-field file) _ (rules-light (law-out (fields-of file .law)) (faults-of file) (fields-of file)) (λ g.
     gives-else Little (when (ltb room (fields-of file .scans)) refusal.Buffer) _
     (gives-when Little (ltb room (fields-of file .scans)) refusal.Buffer (omega arith)) (λ h.
     gives-else Little (found refusal.Entry (bad-entry file)) none (gives-found Little (1008 * (length file / 512 - 1)) refusal.Entry
-    (entry-broken (fields-of file .scans) (fields-of file .settings) (fields-of file .law) (entry-at file)) 0 (λ i l. omega arith)) (λ z. tt)))))
+    (entry-broken (fields-of file .scans) (fields-of file .settings) (allows (fields-of file .law)) (entry-at file)) 0 (λ i l. omega arith)) (λ z. tt)))))
 
 -- an entry's number is below N
 pub write-light : (f : Fields) (settings : List ℕ) (room : ℕ) → Gives Little (write-refusal f settings room)
-unfolding write-refusal
+unfolding write-refusal-under
 write-light f settings room =
-    let bad : ℕ → Bool = entry-broken (f .scans) (f .settings) (f .law) (λ j. getD settings j 0) in
-    gives-else Little (first-refusal (header-rules no-faults f)) _ (rules-light no-faults f) (λ e.
+    let bad : ℕ → Bool = entry-broken (f .scans) (f .settings) (allows (f .law)) (λ j. getD settings j 0) in
+    gives-else Little (first-refusal (header-rules (law-out (f .law)) no-faults f)) _ (rules-light (law-out (f .law)) no-faults f) (λ e.
     let n = scans-inside f e in
     gives-else Little (when (write-short (f .scans) (length settings) room) refusal.Buffer) _
     (gives-when Little (write-short (f .scans) (length settings) room) refusal.Buffer (omega arith)) (λ g.

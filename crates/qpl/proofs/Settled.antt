@@ -22,7 +22,7 @@ use Rattle.checks.proofs.RangeLaws.{in-range}
 use Rattle.laws.proofs.Tests.{never, neither}
 use Rattle.tables.proofs.RefusalLaws.{never-zero, refusal-of, refusal-back}
 use Rattle.blocks.specs.Blocks.{length-out, bad-block}
-use Rattle.planfile.specs.Reading.{broken-field, fields-of, faults-of, read-refusal}
+use Rattle.planfile.specs.Reading.{read-refusal-under, broken-field-under, broken-field, fields-of, faults-of, read-refusal}
 use Rattle.rules.proofs.FieldLaws.{rules-hold}
 use Rattle.promise.specs.Promise.{CeilingPromise, MultiplierPromise, MinmaxPromise, AveragePromise, plan-reply, minmax-reply, average-reply}
 use Rattle.promise.proofs.Unique.{ceiling-settled, multiplier-settled, minmax-settled, average-settled}
@@ -87,12 +87,12 @@ after-stage (some r) x y h = refl
 pub short-answer-read : (file : List ℕ) (answer room : ℕ) → ltb answer 88 ≡ true →
     read-refusal file (lent 88 answer room)
     ≡ first-refusal (when (length-out (length file)) refusal.FileLength ∷ found refusal.Block (bad-block file) ∷ broken-field file ∷ some refusal.Buffer ∷ [])
-unfolding read-refusal broken-field
+unfolding read-refusal-under broken-field-under
 short-answer-read file answer room short = rw short
     (ap (or-else (when (length-out (length file)) refusal.FileLength))
     (ap (or-else (found refusal.Block (bad-block file)))
     (after-stage (broken-field file) _ (some refusal.Buffer) (λ e.
-    let n = in-range {most = most-scans} {x = fields-of file .scans} (neither _ _ (rules-hold (faults-of file) (fields-of file) e .scans) .0) in
+    let n = in-range {most = most-scans} {x = fields-of file .scans} (neither _ _ (rules-hold (law-out (fields-of file .law)) (faults-of file) (fields-of file) e .scans) .0) in
     rw (lt-ltb 0 (fields-of file .scans) (omega (arith, n .0))) refl))))
 
 -- the checks of a planning call whose answer buffer is too short: 1 to 5, and then 6

@@ -2,7 +2,7 @@
 use mathlib.Core.Path.{_≡_, refl}
 use mathlib.Core.Bool.{Bool, true, false, not, _||_, _&&_, cond}
 use mathlib.Core.Option.{none}
-use Prim.Native.Nat.{ℕ, _≤_, _<_}
+use Prim.Native.Nat.{ℕ, _≤_}
 use native.Mathlib.Omega.{arith}
 use lib.Dec.{eqb, ltb}
 use lib.ListN.{length}
@@ -11,8 +11,6 @@ use Rattle.criteria.specs.Fraction.{gcd}
 use Rattle.tables.specs.Limits.{most-scans, most-settings, most-term, most-total, most-cell}
 use Rattle.checks.specs.Checks.{first-refusal, zero-or-over}
 use Rattle.checks.specs.Planning.{scans-out, settings-out}
-use Rattle.tables.specs.Law.{law-out}
-use Rattle.tables.proofs.LawLaws.{known-small}
 use Rattle.checks.proofs.GiveLaws.{Gives, gives-first, gives-when}
 use Rattle.tables.specs.declared.refusal.Refusal.{Refusal}
 use Rattle.tables.specs.declared.refusal.Refusal.the-variants as refusal
@@ -59,11 +57,11 @@ floor-small kind floor distortion e = by-kind (eqb kind 0) e
     by-kind false e = omega (arith, eqb-true floor 0 (not-false _ e))
 
 -- every rule of the header is kept
-pub record RulesHold (m : Faults) (f : Fields) : Type 0 where
+pub record RulesHold (lawless : Bool) (m : Faults) (f : Fields) : Type 0 where
   pub letters : m .letters ≡ false
   pub scans : (scans-out (f .scans) || m .length) ≡ false
   pub settings : settings-out (f .settings) ≡ false
-  pub law : law-out (f .law) ≡ false
+  pub law : lawless ≡ false
   pub kind : kind-out (f .kind) ≡ false
   pub run-13 : m .run_13 ≡ false
   pub n : n-broken (f .kind) (f .n) (f .d) ≡ false
@@ -75,9 +73,9 @@ pub record RulesHold (m : Faults) (f : Fields) : Type 0 where
   pub run-48 : m .run_48 ≡ false
 
 -- where the header rules give no refusal, each is kept
-pub rules-hold : (m : Faults) (f : Fields) → first-refusal (header-rules m f) ≡ none → RulesHold m f
-rules-hold m f e =
-    let p = all-pass (header-rules m f) e in
+pub rules-hold : (lawless : Bool) (m : Faults) (f : Fields) → first-refusal (header-rules lawless m f) ≡ none → RulesHold lawless m f
+rules-hold lawless m f e =
+    let p = all-pass (header-rules lawless m f) e in
     let q = p .1 .1 .1 .1 .1 .1 in
     record {
       letters = none-when _ _ (p .0);
@@ -96,15 +94,14 @@ rules-hold m f e =
     }
 
 -- and where each is kept, they give none
-pub rules-pass : (m : Faults) (f : Fields) → RulesHold m f → first-refusal (header-rules m f) ≡ none
-rules-pass m f k =
+pub rules-pass : (lawless : Bool) (m : Faults) (f : Fields) → RulesHold lawless m f → first-refusal (header-rules lawless m f) ≡ none
+rules-pass lawless m f k =
     rw (k .letters, k .scans, k .settings, k .law, k .kind, k .run-13, k .n, k .d, k .rate, k .distortion, k .peak, k .floor, k .run-48)
 
 -- the limits of the fields
 pub record Limited (f : Fields) : Type 0 where
   pub scans : f .scans ≤ most-scans
   pub settings : f .settings ≤ most-settings
-  pub law : f .law < 256
   pub kind : f .kind ≤ 1
   pub n : f .n ≤ most-term
   pub d : f .d ≤ most-term
@@ -114,13 +111,12 @@ pub record Limited (f : Fields) : Type 0 where
   pub floor : f .floor .0 ≤ most-total
 
 -- fields that keep their rules keep within the limits
-pub limited : (m : Faults) (f : Fields) → RulesHold m f → Limited f
-limited m f k =
+pub limited : (lawless : Bool) (m : Faults) (f : Fields) → RulesHold lawless m f → Limited f
+limited lawless m f k =
     let total : f .distortion .0 ≤ most-total = ltb-false most-total (f .distortion .0) (k .distortion) in
     record {
       scans = in-range (neither (scans-out (f .scans)) (m .length) (k .scans) .0) .1;
       settings = in-range (k .settings) .1;
-      law = known-small (f .law) (k .law);
       kind = zero-or-one (f .kind) (k .kind);
       n = n-small (f .kind) (f .n) (f .d) (k .n);
       d = d-small (f .kind) (f .d) (k .d);
@@ -131,17 +127,17 @@ limited m f k =
     }
 
 -- what holds of the refusals of the header, whose fields start at byte 48 or before, holds of the first that is given
-pub rules-give : (P : Refusal → Type 0) (m : Faults) (f : Fields) → ((byte : ℕ) → byte ≤ 48 → P (refusal.Header byte)) →
-    Gives P (first-refusal (header-rules m f))
-rules-give P m f h =
-    gives-first P (header-rules m f) (
+pub rules-give : (P : Refusal → Type 0) (lawless : Bool) (m : Faults) (f : Fields) → ((byte : ℕ) → byte ≤ 48 → P (refusal.Header byte)) →
+    Gives P (first-refusal (header-rules lawless m f))
+rules-give P lawless m f h =
+    gives-first P (header-rules lawless m f) (
       at (m .letters) 4 (omega arith),
       (
         at (scans-out (f .scans) || m .length) 8 (omega arith),
         (
           at (settings-out (f .settings)) 10 (omega arith),
           (
-            at (law-out (f .law)) 11 (omega arith),
+            at lawless 11 (omega arith),
             (
               at (kind-out (f .kind)) 12 (omega arith),
               (

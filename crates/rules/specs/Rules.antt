@@ -10,7 +10,6 @@ use Rattle.tables.specs.declared.refusal.Refusal.the-variants as refusal
 use Rattle.tables.specs.Limits.{most-term, most-total, most-cell}
 use Rattle.checks.specs.Checks.{when, zero-or-over}
 use Rattle.checks.specs.Planning.{scans-out, settings-out}
-use Rattle.tables.specs.Law.{law-out}
 use Rattle.rules.specs.declared.Fields.{Fields}
 use Rattle.rules.specs.declared.Faults.{Faults}
 
@@ -41,13 +40,14 @@ floor-broken kind floor distortion = cond (eqb kind 0) (ltb distortion floor) (n
 abbrev pub rule : ℕ → Bool → Option Refusal
 rule byte broken = when broken (refusal.Header byte)
 
--- refusal 13, "a header field breaks its rule", with the "lowest byte of the first such field": the fields in byte order
-abbrev pub header-rules : Faults → Fields → List (Option Refusal)
-header-rules m f =
+-- refusal 13, "a header field breaks its rule", with the "lowest byte of the first such field": the fields in byte order. `lawless` says that
+-- the law is none of those that the file may carry.
+abbrev pub header-rules : (lawless : Bool) → Faults → Fields → List (Option Refusal)
+header-rules lawless m f =
     rule 4 (m .letters)
     ∷ rule 8 (scans-out (f .scans) || m .length)
     ∷ rule 10 (settings-out (f .settings))
-    ∷ rule 11 (law-out (f .law))
+    ∷ rule 11 lawless
     ∷ rule 12 (kind-out (f .kind))
     ∷ rule 13 (m .run_13)
     ∷ rule 24 (n-broken (f .kind) (f .n) (f .d))

@@ -7,7 +7,7 @@ use checks::stage::unless;
 use keys::cost::Dist;
 use keys::cost::Rate;
 use tables::common::common;
-use tables::law::unknown;
+use tables::law::no_law;
 use tables::limits::MOST_CELL;
 use tables::limits::MOST_SCANS;
 use tables::limits::MOST_SETTINGS;
@@ -16,6 +16,7 @@ use tables::limits::MOST_TOTAL;
 use tables::refusal::Refusal;
 ghost use mathlib.Core.Path.{_≡_};
 ghost use mathlib.Core.Bool.{_||_};
+ghost use Rattle.tables.specs.Law.{«law-out»};
 ghost use Rattle.checks.specs.Checks.{«first-refusal»};
 ghost use Rattle.rules.specs.Rules.{«header-rules», «kind-out», «n-broken», «d-broken», «rate-broken», «peak-broken», «floor-broken»};
 ghost use Rattle.checks.specs.Stages.{ended};
@@ -115,7 +116,7 @@ fn floor_wrong(kind: u64, floor: u64, distortion: u64) -> bool
 
 // The first field in byte order that breaks its rule.
 pub fn rules(m: Faults, f: Fields) -> Stage
-    ensures { λ r. ⌜ ended r ≡ first-refusal (header-rules m f) ⌝ }
+    ensures { λ r. ⌜ ended r ≡ first-refusal (header-rules (law-out (f .law)) m f) ⌝ }
 {
     let letters = unless(m.letters, Refusal::Header(4));
     let scans = then(
@@ -128,7 +129,7 @@ pub fn rules(m: Faults, f: Fields) -> Stage
         outside(MOST_SETTINGS, f.settings),
         Refusal::Header(10),
     );
-    let law = then(settings, unknown(f.law), Refusal::Header(11));
+    let law = then(settings, no_law(f.law), Refusal::Header(11));
     let kind = then(law, no_kind(f.kind), Refusal::Header(12));
     let run_13 = then(kind, m.run_13, Refusal::Header(13));
     let n = then(run_13, n_wrong(f.kind, f.n, f.d), Refusal::Header(24));

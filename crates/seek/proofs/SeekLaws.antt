@@ -10,8 +10,9 @@ use lib.Seq.{ext-getD, getD-drop}
 use Rattle.criteria.specs.Choice.{Problem, UnderCeiling, InBudget, Ceiling, NoneWithin}
 use Rattle.criteria.specs.Passes.{Thriftiest}
 use Rattle.tables.specs.Limits.{most-cell, most-total, most-scans, most-settings}
+use Rattle.tables.specs.Law.{Law}
 use Rattle.tables.specs.Series.{Series, Kept, largest}
-use Rattle.tables.specs.Tables.{scratch-need, Table, table, series, planning}
+use Rattle.tables.specs.Tables.{scratch-need, Table, table-under, series, planning}
 use Rattle.tables.proofs.Bounds.{Bounded, table-small, rate-small, distortion-small, peak-small}
 use Rattle.criteria.proofs.Agree.{best-same}
 use Rattle.criteria.proofs.Order.{then-le}
@@ -39,9 +40,10 @@ peak-under S X i p (q ∷ s) k h = (k .0, (k .1, omega arith), peak-under S X (s
 least-same : {C C′ : List ℕ → Type 0} {k : List ℕ → ℕ} {s : List ℕ} → ((t : List ℕ) → C t → C′ t) → ((t : List ℕ) → C′ t → C t) → Least C k s → Least C′ k s
 least-same {s = s} to from l = record { one = to s (l .one); ahead = λ t c. l .ahead t (from t c) }
 
-module _ {N Q : ℕ} (law : ℕ) {rates distortions : List ℕ} {room : ℕ} (fit : Fit N Q rates distortions room) where
+-- a table under any law
+module _ {N Q : ℕ} (law : Law) {rates distortions : List ℕ} {room : ℕ} (fit : Fit N Q rates distortions room) where
   abbrev T : Table
-  T = table N Q law rates distortions
+  T = table-under law N Q rates distortions
 
   abbrev P : Problem
   P = planning T

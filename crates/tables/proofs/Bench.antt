@@ -10,6 +10,7 @@ use Rattle.criteria.specs.Passes.{Thriftiest, Slope, last, fitting, over, none-
 use Rattle.criteria.proofs.Finite.{Finite}
 use Rattle.criteria.proofs.Check.{proof, with, average?, average-floor?, none-within?, ceiling?, minmax?, multiplier?, best?, given}
 use Rattle.tables.specs.Bench.{tableT, tableU, T, U, AverageClaim, HasWithin, HasTotals, claims, more-claims, Every, _also_, no-more}
+use Rattle.tables.specs.Law.{allows}
 use Rattle.tables.proofs.Listing.{table-finite}
 use Rattle.tables.proofs.LawLaws.{law?}
 
@@ -33,7 +34,7 @@ totals? P fin s R D X =
 
 -- P1 to P14
 pub bench : Every claims
-unfolding decLe decLt ℕ-discrete
+unfolding decLe decLt ℕ-discrete allows
 bench =
     proof (answer? T T-finite _ _ _ _ _) tt
     also proof (answer? T T-finite _ _ _ _ _) tt
@@ -59,7 +60,7 @@ bench =
 
 -- T's sequences, and the counts of document 02, [13]
 pub more-bench : Every more-claims
-unfolding decLe decLt ℕ-discrete
+unfolding decLe decLt ℕ-discrete allows
 more-bench =
     proof (totals? T T-finite _ _ _ _) tt
     also proof (totals? T T-finite _ _ _ _) tt

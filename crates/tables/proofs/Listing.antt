@@ -9,11 +9,10 @@ use native.Mathlib.Omega.{arith}
 use lib.ListN.{length}
 use Rattle.criteria.proofs.Decide.{dec-×, dec-×₃, not?}
 use Rattle.criteria.proofs.Finite.{Finite}
-use Rattle.tables.proofs.LawLaws.{law?}
 use Rattle.tables.specs.Limits.{forbidden}
 use Rattle.tables.specs.Series.{Series, Kept, problem}
 use Rattle.tables.specs.Law.{Law, Follows}
-use Rattle.tables.specs.Tables.{Table, rate-at, series, planning, table}
+use Rattle.tables.specs.Tables.{Table, rate-at, series, planning}
 
 -- each number below b before each list
 abbrev pub each : ℕ → List (List ℕ) → List (List ℕ)
@@ -63,7 +62,3 @@ follows? law? (suc i) p q = law? p q
 abbrev pub table-finite : (t : Table) → ((p q : ℕ) → Dec (t .law p q)) → Finite (planning t)
 table-finite t law? =
     finite (series t) (λ i p q. dec-× (not? (ℕ-discrete (rate-at t i p q) forbidden)) (follows? {law = t .law} law? i p q))
-
--- so a table with a law by number has finitely many sequences
-abbrev pub numbered-finite : (N Q law : ℕ) (rates distortions : List ℕ) → Finite (planning (table N Q law rates distortions))
-numbered-finite N Q law rates distortions = table-finite (table N Q law rates distortions) (law? law)

@@ -49,6 +49,10 @@ series t = record {
 abbrev pub planning : Table → Problem
 planning t = problem (series t)
 
--- a table with its law by number
+-- a table under a law
+abbrev pub table-under : Law → (N Q : ℕ) (rates distortions : List ℕ) → Table
+table-under law N Q rates distortions = record { N = N; Q = Q; law = law; rates = rates; distortions = distortions }
+
+-- .. given by its number
 abbrev pub table : (N Q law : ℕ) (rates distortions : List ℕ) → Table
-table N Q law rates distortions = record { N = N; Q = Q; law = law-of law; rates = rates; distortions = distortions }
+table N Q law rates distortions = table-under (law-of law) N Q rates distortions

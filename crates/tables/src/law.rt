@@ -5,17 +5,27 @@ ghost use Prim.Native.Nat.{_-_, _≤_, _<_, min};
 ghost use Rattle.tables.specs.Limits.{«most-settings»};
 ghost use Rattle.tables.specs.Law.{«law-of», allows, «law-out», SideBySide};
 
-// The law under which every setting may follow.
-pub const ANY_STEP: u64 = 0;
-
 // Is this no law's number?
-pub fn unknown(law: u64) -> bool
+pub fn no_law(law: u64) -> bool
     ensures { λ r. ⌜ r ≡ law-out law ⌝ }
 {
     if law == 0 {
         return false;
     }
-    law != 1
+    if law == 1 {
+        return false;
+    }
+    law != 2
+}
+
+// How far x is above y; 0 where it is not.
+fn above(x: u64, y: u64) -> u64
+    ensures { λ r. ⌜ r ≡ x - y ⌝ }
+{
+    if y < x {
+        return x - y;
+    }
+    0
 }
 
 // May this setting follow that one?
@@ -26,10 +36,13 @@ pub fn keeps(law: u64, before: u64, setting: u64) -> bool
         return true;
     }
     if law == 1 {
-        if before < setting {
-            return setting - before <= 2;
+        if 2 < above(setting, before) {
+            return false;
         }
-        return before - setting <= 2;
+        return above(before, setting) <= 2;
+    }
+    if law == 2 {
+        return above(setting, before) <= 2;
     }
     false
 }
@@ -55,28 +68,28 @@ fn lesser(x: usize, y: usize) -> usize
     if x < y { x } else { y }
 }
 
-fn all(settings: usize) -> Span
-    ensures { λ r. ⌜ (r .from ≡ 0) × (r .to ≡ settings) ⌝ }
-{
-    Span {
-        from: 0,
-        to: settings,
-    }
-}
-
 // The settings that may follow one lie side by side, under every law.
 pub fn run(law: u64, before: usize, settings: usize) -> Span
     requires { ⌜ (before < settings) × (settings ≤ most-settings) ⌝ }
     ensures { λ r. ⌜ SideBySide (law-of law) before settings (r .from) (r .to) ⌝ }
 {
     if law == 0 {
-        return all(settings);
+        return Span {
+            from: 0,
+            to: settings,
+        };
     }
+    // Two finer, and the end of two coarser.
+    let finest = lowered(before, 2);
+    let end = lesser(before + 3, settings);
     if law == 1 {
         return Span {
-            from: lowered(before, 2),
-            to: lesser(before + 3, settings),
+            from: finest,
+            to: end,
         };
+    }
+    if law == 2 {
+        return Span { from: 0, to: end };
     }
     Span { from: 0, to: 0 }
 }

@@ -7,7 +7,7 @@ pub enum Refusal {
     Scans,
     // 2: Q is 0 or over 16
     Settings,
-    // 3: law is not 0 or 1
+    // 3: law is not 0, 1 or 2
     StepLaw,
     // 4: n or d outside its range
     Multiplier,

@@ -4,3 +4,4 @@ pub mod StepLaws
 pub mod Onward
 pub mod Rows
 pub mod PassLaws
+pub mod MadeLaws

@@ -24,6 +24,7 @@ use Rattle.least.proofs.PriceLaws.{cell-fits, open-price, price-open}
 use Rattle.trellis.specs.Square.{Sixteen}
 use Rattle.trellis.specs.Stepped.{BestAmong, Stepped}
 use Rattle.trellis.specs.Choices.{choice, ChoiceStored, walk, chosen}
+use Rattle.trellis.specs.Made.{SquareOf, FirstRow}
 use Rattle.trellis.specs.Pass.{under, pass-problem, weighed}
 use Rattle.trellis.proofs.StepLaws.{all-best, best-of-same}
 use Rattle.trellis.proofs.Onward.{LeastOn}
@@ -117,8 +118,8 @@ module _ (t : Table) (rule : Rule) where
 
     -- one scan more
     module _ {i : ℕ} {scratch scratch′ keys keys′ : List ℕ} {rs ds : List (List ℕ)} (later : 0 < i)
-        (rates-at : (p : ℕ) → p < t .Q → (q : ℕ) → q < t .Q → getD (getD rs p []) q 0 ≡ getD (t .rates) (t .Q + (i - 1) * (t .Q * t .Q) + p * t .Q + q) 0)
-        (distortions-at : (p : ℕ) → p < t .Q → (q : ℕ) → q < t .Q → getD (getD ds p []) q 0 ≡ getD (t .distortions) (t .Q + (i - 1) * (t .Q * t .Q) + p * t .Q + q) 0)
+        (rates-at : SquareOf (t .Q) i (t .rates) rs)
+        (distortions-at : SquareOf (t .Q) i (t .distortions) ds)
         (stepped : Stepped rule (t .law) (t .Q) i rs ds keys keys′ scratch scratch′) where
       same : (j p : ℕ) → suc i ≤ j → p < t .Q → choice (t .Q) scratch j p ≡ choice (t .Q) scratch′ j p
       same j p h l = sym (stepped .others j p l (λ e. omega arith))
@@ -141,8 +142,8 @@ module _ (t : Table) (rule : Rule) where
 
     -- scan 0, and the answer
     module _ {scratch scratch′ keys : List ℕ} {v q : ℕ} (rs ds : List ℕ) (d : Done 0 scratch keys) (stored : ChoiceStored (t .Q) 0 0 q scratch scratch′)
-        (rates-at : (r : ℕ) → r < t .Q → getD rs r 0 ≡ getD (t .rates) (0 + r) 0)
-        (distortions-at : (r : ℕ) → r < t .Q → getD ds r 0 ≡ getD (t .distortions) (0 + r) 0)
+        (rates-at : FirstRow (t .Q) (t .rates) rs)
+        (distortions-at : FirstRow (t .Q) (t .distortions) ds)
         (best : BestOf (candidate rule rs ds keys) 0 (t .Q) v q) where
       first-same : (j p : ℕ) → 1 ≤ j → p < t .Q → choice (t .Q) scratch j p ≡ choice (t .Q) scratch′ j p
       first-same j p h l = sym (stored .others j p l (λ e z. omega arith))

@@ -5,7 +5,6 @@ use crate::square::square_into;
 use least::NO_WAY;
 use least::Rule;
 use least::pick;
-use tables::law::ANY_STEP;
 use tables::law::run;
 ghost use mathlib.Core.Path.{_≡_};
 ghost use mathlib.Core.List.{[]};
@@ -93,16 +92,16 @@ pub fn pass(
     let mut first_distortions = [0u32; 16];
     row_into(&mut first_rates, rates, 0, settings);
     row_into(&mut first_distortions, distortions, 0, settings);
-    // Nothing stands before scan 0, so no law is asked there.
-    let span = run(ANY_STEP, 0, settings);
+    // Nothing stands before scan 0, so no law is asked there: every setting may.
+    let end = settings;
     let best = pick(
         &mut row,
         &first_rates,
         &first_distortions,
         rule,
         &keys,
-        span.from,
-        span.to,
+        0,
+        end,
     );
     store(scratch, settings, 0, 0, best.first);
     best.key.0 < NO_WAY

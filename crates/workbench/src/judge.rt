@@ -4,7 +4,7 @@ use checks::range::ranges;
 use checks::stage::Stage;
 use reading::State;
 use tables::cells::count;
-use tables::law::unknown;
+use tables::law::no_law;
 use tables::limits::MOST_SCANS;
 use tables::refusal::Refusal;
 ghost use mathlib.Core.Path.{_≡_};
@@ -40,7 +40,7 @@ pub fn first_four(numbers: &[u32]) -> Head
     let scans = cell_to_number(numbers[0]);
     let settings = cell_to_number(numbers[1]);
     let law = cell_to_number(numbers[2]);
-    let ranged = ranges(MOST_SCANS, scans, settings, unknown(law));
+    let ranged = ranges(MOST_SCANS, scans, settings, no_law(law));
     let Stage::Stopped(refusal) = ranged else {
         let cells = count(scans, settings);
         if MOST_CELLS < cells {

@@ -12,6 +12,7 @@ use borrow.Author.Count.{below-more}
 use Rattle.tables.specs.declared.refusal.Refusal.the-variants as refusal
 use Rattle.blocks.specs.File.{entry-at}
 use Rattle.checks.specs.Checks.{found}
+use Rattle.tables.specs.Law.{allows}
 use Rattle.entries.specs.Entries.{entry-broken}
 use Rattle.entries.proofs.EntryLaws.{breaks-of}
 use Rattle.checks.proofs.CheckLaws.{first-found, none-first}
@@ -19,7 +20,7 @@ use Rattle.entries.proofs.check_file.Statement.{statement}
 use Rattle.entries.proofs.check_file.Tie as tie
 
 abbrev Inv-loop : tie.InvT-loop
-Inv-loop file scans settings law count before₀ j₀ before j = (j ≤ count) × ((before ≡ entry-at file (j - 1)) × ((i : ℕ) → i < j → entry-broken scans settings law (entry-at file) i ≡ false))
+Inv-loop file scans settings law count before₀ j₀ before j = (j ≤ count) × ((before ≡ entry-at file (j - 1)) × ((i : ℕ) → i < j → entry-broken scans settings (allows law) (entry-at file) i ≡ false))
 
 abbrev μ-loop : tie.MeasureT-loop
 μ-loop file scans settings law count before₀ j₀ before j = count - j
@@ -27,12 +28,12 @@ abbrev μ-loop : tie.MeasureT-loop
 -- what was asked of the entry is the rule
 judged : (c : tie.After-entry-wrong Inv-loop μ-loop) →
     let a = c .before .before .before .before .before .before .before .before .args in
-    c .entry-wrong .result ≡ entry-broken (a .scans) (a .settings) (a .law) (entry-at (now (a .file))) (c .before .before .before .before .loop .j)
+    c .entry-wrong .result ≡ entry-broken (a .scans) (a .settings) (allows (a .law)) (entry-at (now (a .file))) (c .before .before .before .before .loop .j)
 unfolding entry-broken
 judged c =
     let a = c .before .before .before .before .before .before .before .before .args in
     let l = c .before .before .before .before .loop in
-    breaks-of (a .scans) (a .settings) (a .law) (l .j) (c .entry-wrong .ensures) (l .inv .1 .0) (c .before .byte-to-number2 .ensures .0 ∙ c .before .before .get2 .ensures .0)
+    breaks-of (a .scans) (a .settings) (allows (a .law)) (l .j) (c .entry-wrong .ensures) (l .inv .1 .0) (c .before .byte-to-number2 .ensures .0 ∙ c .before .before .get2 .ensures .0)
 
 sub-count : tie.Need-sub-count Inv-loop μ-loop
 sub-count c = omega arith
@@ -62,7 +63,7 @@ returns : tie.Need-returns Inv-loop μ-loop
 returns c =
     let a = c .before .before .before .before .before .before .before .before .before .args in
     let l = c .before .before .before .before .before .loop in
-    let bad = entry-broken (a .scans) (a .settings) (a .law) (entry-at (now (a .file))) in
+    let bad = entry-broken (a .scans) (a .settings) (allows (a .law)) (entry-at (now (a .file))) in
     sym (ap (found refusal.Entry) (first-found bad 0 (l .j) (1008 * (length (now (a .file)) / 512 - 1)) (λ i h. rw (zero-add i) (l .inv .1 .1 i h)) (omega arith) (rw (zero-add (l .j)) (sym (judged (c .before)) ∙ c .if1 .taken))) ∙ ap (λ n. found refusal.Entry (some n)) (zero-add (l .j)))
 
 add-j : tie.Need-add-j Inv-loop μ-loop
@@ -79,14 +80,14 @@ loop-again c =
       omega arith,
       (
         c .before .before .byte-to-number2 .ensures .0 ∙ c .before .before .before .get2 .ensures .0 ∙ ap (entry-at (now (a .file))) (sym e),
-        below-more (λ i. entry-broken (a .scans) (a .settings) (a .law) (entry-at (now (a .file))) i ≡ false) _ (l .inv .1 .1) (sym (judged (c .before)) ∙ c .if1 .left),
+        below-more (λ i. entry-broken (a .scans) (a .settings) (allows (a .law)) (entry-at (now (a .file))) i ≡ false) _ (l .inv .1 .1) (sym (judged (c .before)) ∙ c .if1 .left),
       ),
     )
 
 returns-2 : tie.Need-returns-2 Inv-loop μ-loop
 returns-2 c =
     let a = c .before .before .before .before .before .args in
-    sym (ap (found refusal.Entry) (none-first (1008 * (length (now (a .file)) / 512 - 1)) (entry-broken (a .scans) (a .settings) (a .law) (entry-at (now (a .file)))) 0 (λ i h g. c .before .loop .inv .1 .1 i (omega arith))))
+    sym (ap (found refusal.Entry) (none-first (1008 * (length (now (a .file)) / 512 - 1)) (entry-broken (a .scans) (a .settings) (allows (a .law)) (entry-at (now (a .file)))) 0 (λ i h g. c .before .loop .inv .1 .1 i (omega arith))))
 
 pub check-file-spec : {M : Type 1} → statement M
 check-file-spec =

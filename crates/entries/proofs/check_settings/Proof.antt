@@ -11,6 +11,7 @@ use denote.Ref.{now}
 use borrow.Author.Count.{below-more}
 use Rattle.tables.specs.declared.refusal.Refusal.the-variants as refusal
 use Rattle.checks.specs.Checks.{found}
+use Rattle.tables.specs.Law.{allows}
 use Rattle.entries.specs.Entries.{entry-broken}
 use Rattle.entries.proofs.EntryLaws.{breaks-of}
 use Rattle.checks.proofs.CheckLaws.{first-found, none-first}
@@ -18,7 +19,7 @@ use Rattle.entries.proofs.check_settings.Statement.{statement}
 use Rattle.entries.proofs.check_settings.Tie as tie
 
 abbrev Inv-loop : tie.InvT-loop
-Inv-loop list scans settings law before₀ j₀ before j = (j ≤ scans) × ((before ≡ getD list (j - 1) 0) × ((i : ℕ) → i < j → entry-broken scans settings law (λ k. getD list k 0) i ≡ false))
+Inv-loop list scans settings law before₀ j₀ before j = (j ≤ scans) × ((before ≡ getD list (j - 1) 0) × ((i : ℕ) → i < j → entry-broken scans settings (allows law) (λ k. getD list k 0) i ≡ false))
 
 abbrev μ-loop : tie.MeasureT-loop
 μ-loop list scans settings law before₀ j₀ before j = scans - j
@@ -26,12 +27,12 @@ abbrev μ-loop : tie.MeasureT-loop
 -- what was asked of the entry is the rule
 judged : (c : tie.After-entry-wrong Inv-loop μ-loop) →
     let a = c .before .before .before .before .before .before .before .before .args in
-    c .entry-wrong .result ≡ entry-broken (a .scans) (a .settings) (a .law) (λ k. getD (now (a .list)) k 0) (c .before .before .before .before .loop .j)
+    c .entry-wrong .result ≡ entry-broken (a .scans) (a .settings) (allows (a .law)) (λ k. getD (now (a .list)) k 0) (c .before .before .before .before .loop .j)
 unfolding entry-broken
 judged c =
     let a = c .before .before .before .before .before .before .before .before .args in
     let l = c .before .before .before .before .loop in
-    breaks-of (a .scans) (a .settings) (a .law) (l .j) (c .entry-wrong .ensures) (l .inv .1 .0) (c .before .byte-to-number2 .ensures .0)
+    breaks-of (a .scans) (a .settings) (allows (a .law)) (l .j) (c .entry-wrong .ensures) (l .inv .1 .0) (c .before .byte-to-number2 .ensures .0)
 
 shared-slice-read-byte-to-number : tie.Need-shared-slice-read-byte-to-number Inv-loop μ-loop
 shared-slice-read-byte-to-number c = search needs
@@ -55,7 +56,7 @@ returns : tie.Need-returns Inv-loop μ-loop
 returns c =
     let a = c .before .before .before .before .before .before .before .before .before .args in
     let l = c .before .before .before .before .before .loop in
-    let bad = entry-broken (a .scans) (a .settings) (a .law) (λ k. getD (now (a .list)) k 0) in
+    let bad = entry-broken (a .scans) (a .settings) (allows (a .law)) (λ k. getD (now (a .list)) k 0) in
     sym (ap (found refusal.Entry) (first-found bad 0 (l .j) (a .scans) (λ i h. rw (zero-add i) (l .inv .1 .1 i h)) (omega arith) (rw (zero-add (l .j)) (sym (judged (c .before)) ∙ c .if1 .taken))) ∙ ap (λ n. found refusal.Entry (some n)) (zero-add (l .j)))
 
 add-j : tie.Need-add-j Inv-loop μ-loop
@@ -72,14 +73,14 @@ loop-again c =
       omega arith,
       (
         c .before .before .byte-to-number2 .ensures .0 ∙ ap (λ k. getD (now (a .list)) k 0) (sym e),
-        below-more (λ i. entry-broken (a .scans) (a .settings) (a .law) (λ k. getD (now (a .list)) k 0) i ≡ false) _ (l .inv .1 .1) (sym (judged (c .before)) ∙ c .if1 .left),
+        below-more (λ i. entry-broken (a .scans) (a .settings) (allows (a .law)) (λ k. getD (now (a .list)) k 0) i ≡ false) _ (l .inv .1 .1) (sym (judged (c .before)) ∙ c .if1 .left),
       ),
     )
 
 returns-2 : tie.Need-returns-2 Inv-loop μ-loop
 returns-2 c =
     let a = c .before .before .before .before .before .args in
-    sym (ap (found refusal.Entry) (none-first (a .scans) (entry-broken (a .scans) (a .settings) (a .law) (λ k. getD (now (a .list)) k 0)) 0 (λ i h g. c .before .loop .inv .1 .1 i (omega arith))))
+    sym (ap (found refusal.Entry) (none-first (a .scans) (entry-broken (a .scans) (a .settings) (allows (a .law)) (λ k. getD (now (a .list)) k 0)) 0 (λ i h g. c .before .loop .inv .1 .1 i (omega arith))))
 
 pub check-settings-spec : {M : Type 1} → statement M
 check-settings-spec =

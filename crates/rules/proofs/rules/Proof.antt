@@ -8,6 +8,7 @@ use Rattle.tables.specs.declared.refusal.Refusal.the-variants as refusal
 use lib.Dec.{ltb}
 use Rattle.tables.specs.Limits.{most-total}
 use Rattle.checks.specs.Checks.{first-refusal}
+use Rattle.tables.specs.Law.{law-out}
 use Rattle.rules.specs.Rules.{header-rules}
 use Rattle.checks.specs.Stages.{ended}
 use Rattle.checks.proofs.CheckLaws.{one-more}
@@ -33,8 +34,8 @@ outside-requires-2 c κs = search needs
 then-requires-2 : tie.Need-then-requires-2
 then-requires-2 c κs = search needs
 
-unknown-requires : tie.Need-unknown-requires
-unknown-requires c κs = search needs
+no-law-requires : tie.Need-no-law-requires
+no-law-requires c κs = search needs
 
 then-requires-3 : tie.Need-then-requires-3
 then-requires-3 c κs = search needs
@@ -87,11 +88,11 @@ then-requires-12 c κs = search needs
 returns : tie.Need-returns
 returns c =
     let a = c .before .before .before .before .before .before .before .before .before .before .before .before .before .before .before .before .before .before .before .before .before .before .before .before .args in
-    let R = header-rules (a .m) (a .f) in
+    let R = header-rules (law-out (a .f .law)) (a .m) (a .f) in
     let e1 : ended (c .before .before .before .before .before .before .before .before .before .before .before .before .before .before .before .before .before .before .before .before .before .before .before .unless .result) ≡ first-refusal (take 1 R) = one-more [] (refusal.Header 4) (a .m .letters) {o = none} refl (c .before .before .before .before .before .before .before .before .before .before .before .before .before .before .before .before .before .before .before .before .before .before .before .unless .ensures) refl in
     let e2 : ended (c .before .before .before .before .before .before .before .before .before .before .before .before .before .before .before .before .before .before .before .before .then .result) ≡ first-refusal (take 2 R) = one-more (take 1 R) (refusal.Header 8) (c .before .before .before .before .before .before .before .before .before .before .before .before .before .before .before .before .before .before .before .before .before .either-of .result) e1 (c .before .before .before .before .before .before .before .before .before .before .before .before .before .before .before .before .before .before .before .before .then .ensures) (c .before .before .before .before .before .before .before .before .before .before .before .before .before .before .before .before .before .before .before .before .before .either-of .ensures ∙ ap (λ t. t || c .before .before .before .before .before .before .before .before .before .before .before .before .before .before .before .before .before .before .before .before .before .before .before .before .args .m .length) (c .before .before .before .before .before .before .before .before .before .before .before .before .before .before .before .before .before .before .before .before .before .before .outside .ensures)) in
     let e3 : ended (c .before .before .before .before .before .before .before .before .before .before .before .before .before .before .before .before .before .before .then2 .result) ≡ first-refusal (take 3 R) = one-more (take 2 R) (refusal.Header 10) (c .before .before .before .before .before .before .before .before .before .before .before .before .before .before .before .before .before .before .before .outside2 .result) e2 (c .before .before .before .before .before .before .before .before .before .before .before .before .before .before .before .before .before .before .then2 .ensures) (c .before .before .before .before .before .before .before .before .before .before .before .before .before .before .before .before .before .before .before .outside2 .ensures) in
-    let e4 : ended (c .before .before .before .before .before .before .before .before .before .before .before .before .before .before .before .before .then3 .result) ≡ first-refusal (take 4 R) = one-more (take 3 R) (refusal.Header 11) (c .before .before .before .before .before .before .before .before .before .before .before .before .before .before .before .before .before .unknown .result) e3 (c .before .before .before .before .before .before .before .before .before .before .before .before .before .before .before .before .then3 .ensures) (c .before .before .before .before .before .before .before .before .before .before .before .before .before .before .before .before .before .unknown .ensures) in
+    let e4 : ended (c .before .before .before .before .before .before .before .before .before .before .before .before .before .before .before .before .then3 .result) ≡ first-refusal (take 4 R) = one-more (take 3 R) (refusal.Header 11) (c .before .before .before .before .before .before .before .before .before .before .before .before .before .before .before .before .before .no-law .result) e3 (c .before .before .before .before .before .before .before .before .before .before .before .before .before .before .before .before .then3 .ensures) (c .before .before .before .before .before .before .before .before .before .before .before .before .before .before .before .before .before .no-law .ensures) in
     let e5 : ended (c .before .before .before .before .before .before .before .before .before .before .before .before .before .before .then4 .result) ≡ first-refusal (take 5 R) = one-more (take 4 R) (refusal.Header 12) (c .before .before .before .before .before .before .before .before .before .before .before .before .before .before .before .no-kind .result) e4 (c .before .before .before .before .before .before .before .before .before .before .before .before .before .before .then4 .ensures) (c .before .before .before .before .before .before .before .before .before .before .before .before .before .before .before .no-kind .ensures) in
     let e6 : ended (c .before .before .before .before .before .before .before .before .before .before .before .before .before .then5 .result) ≡ first-refusal (take 6 R) = one-more (take 5 R) (refusal.Header 13) (a .m .run_13) e5 (c .before .before .before .before .before .before .before .before .before .before .before .before .before .then5 .ensures) (refl) in
     let e7 : ended (c .before .before .before .before .before .before .before .before .before .before .before .then6 .result) ≡ first-refusal (take 7 R) = one-more (take 6 R) (refusal.Header 24) (c .before .before .before .before .before .before .before .before .before .before .before .before .n-wrong .result) e6 (c .before .before .before .before .before .before .before .before .before .before .before .then6 .ensures) (c .before .before .before .before .before .before .before .before .before .before .before .before .n-wrong .ensures) in
@@ -112,7 +113,7 @@ rules-spec =
     then-requires
     outside-requires-2
     then-requires-2
-    unknown-requires
+    no-law-requires
     then-requires-3
     no-kind-requires
     then-requires-4

@@ -27,7 +27,7 @@ asked c =
 ranged : (c : tie.After-ranges) → ended (c .ranges .result) ≡ range-refusal (asked (c .before .before .before .before))
 ranged c =
     let a = c .before .before .before .before .args in
-    c .ranges .ensures ∙ ap (λ (b : Bool). first-refusal (range-checks most-scans (a .scans) (a .settings) b)) (c .before .unknown .ensures)
+    c .ranges .ensures ∙ ap (λ (b : Bool). first-refusal (range-checks most-scans (a .scans) (a .settings) b)) (c .before .no-law .ensures)
 
 -- where it passed, the numbers are in their ranges
 in-range-at : (c : tie.After-ranges) → ended (c .ranges .result) ≡ none →
@@ -54,8 +54,8 @@ further-passed c = ap ended (c .before .before .before .before .before .before .
 size-passed : (c : tie.After-enum-told5) → first-refusal (size-checks (asked (c .before .before .before .before .before .before .before .before .before .before .before .before .before .before .before .before))) ≡ none
 size-passed c = passed-none (sized (c .before .before)) (c .enum-told5 .given .1)
 
-unknown-requires : tie.Need-unknown-requires
-unknown-requires c κs = search needs
+no-law-requires : tie.Need-no-law-requires
+no-law-requires c κs = search needs
 
 ranges-requires : tie.Need-ranges-requires
 ranges-requires c κs = search needs
@@ -118,7 +118,7 @@ pub check-spec : {M : Type 1} → statement M
 check-spec =
     tie.close
     (tie.spec
-    unknown-requires
+    no-law-requires
     ranges-requires
     enum-told
     enum-told-2

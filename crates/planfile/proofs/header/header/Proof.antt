@@ -2,9 +2,10 @@
 use mathlib.Core.Path.{ap, _∙_}
 use denote.Ref.{now}
 use Rattle.checks.specs.Checks.{first-refusal}
+use Rattle.tables.specs.Law.{law-out}
 use Rattle.rules.specs.declared.Fields.{Fields}
 use Rattle.rules.specs.Rules.{header-rules}
-use Rattle.planfile.specs.Reading.{fields-of, faults-of, broken-field}
+use Rattle.planfile.specs.Reading.{fields-of, faults-of, broken-field-under}
 use borrow.Author.Needs.{needs}
 use Rattle.planfile.proofs.header.header.Statement.{statement}
 use Rattle.planfile.proofs.header.header.Tie as tie
@@ -17,12 +18,12 @@ rules-requires : tie.Need-rules-requires
 rules-requires c κs = search needs
 
 returns : tie.Need-returns
-unfolding broken-field
+unfolding broken-field-under
 returns c =
     let s = now (c .before .before .before .args .file) in
     c .rules .ensures
-    ∙ ap (λ m. first-refusal (header-rules m (c .before .before .before .args .f))) (c .before .faults .ensures)
-    ∙ ap (λ f. first-refusal (header-rules (faults-of s) f)) (c .before .before .before .pre .1)
+    ∙ ap (λ m. first-refusal (header-rules (law-out (c .before .before .before .args .f .law)) m (c .before .before .before .args .f))) (c .before .faults .ensures)
+    ∙ ap (λ f. first-refusal (header-rules (law-out (f .law)) (faults-of s) f)) (c .before .before .before .pre .1)
 
 pub header-spec : {M : Type 1} → statement M
 header-spec = tie.close (tie.spec faults-requires rules-requires returns)

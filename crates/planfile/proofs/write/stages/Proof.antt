@@ -8,6 +8,7 @@ use denote.Ref.{now}
 use Rattle.tables.specs.declared.refusal.Refusal.the-variants as refusal
 use Rattle.tables.specs.declared.refusal.Refusal.{Refusal}
 use Rattle.rules.specs.declared.Fields.{Fields}
+use Rattle.tables.specs.Law.{allows}
 use Rattle.entries.specs.Entries.{entry-broken}
 use Rattle.checks.specs.Checks.{when, found, first-from, first-refusal}
 use Rattle.checks.specs.Stages.{ended}
@@ -42,7 +43,7 @@ room-passed c =
 
 -- the last stage's check
 abbrev bad : Fields → List ℕ → Option Refusal
-bad f settings = found refusal.Entry (first-from (entry-broken (f .scans) (f .settings) (f .law) (λ j. getD settings j 0)) 0 (f .scans))
+bad f settings = found refusal.Entry (first-from (entry-broken (f .scans) (f .settings) (allows (f .law)) (λ j. getD settings j 0)) 0 (f .scans))
 
 rules-requires : tie.Need-rules-requires
 rules-requires c κs = search needs

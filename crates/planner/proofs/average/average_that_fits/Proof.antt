@@ -1,4 +1,5 @@
 -- `planner::average::average_that_fits` meets its contract: the plan at zero, or where the slopes end. Assumes nothing.
+use Rattle.tables.specs.Law.{law-of}
 use Rattle.criteria.specs.Choice.{Problem}
 use Rattle.tables.specs.Tables.{table, planning}
 use native.Mathlib.Omega.{arith}
@@ -35,7 +36,7 @@ answer-requires : tie.Need-answer-requires
 answer-requires c κs =
     let s = c .before .before .before .before .before .before .before .before .before .before .before .before .before .before .before .before .before .before .before in
     let m = pass-finds {P = problem s} (c .before .before .before .before .before .before .before .before .before .before .before .before .before .multiplier-pass .ensures) (s .pre .1 .plan) (s .pre .1 .thriftiest .one) in
-    ((omega arith, (omega arith, omega arith)), (finished-small {P = problem s} (sums-small (s .args .law) (s .pre .0 .0)) (m .one) (c .before .before .before .before .finish .ensures .totals), omega arith))
+    ((omega arith, (omega arith, omega arith)), (finished-small {P = problem s} (sums-small (law-of (s .args .law)) (s .pre .0 .0)) (m .one) (c .before .before .before .before .finish .ensures .totals), omega arith))
 
 same-length : tie.Need-same-length
 same-length c = search needs
@@ -68,7 +69,7 @@ answer-requires-2 : tie.Need-answer-requires-2
 answer-requires-2 c κs =
     let s = c .before .before .before .before .before .before .before .before .before .before .before .before .before .before .before .before .before .before .before .before .before .before .before in
     let e = c .before .before .before .before .before .before .before .before .before .slopes .ensures in
-    let small = sums-small (s .args .law) (s .pre .0 .0) in (
+    let small = sums-small (law-of (s .args .law)) (s .pre .0 .0) in (
       (e .small-n, (e .ended .whole, e .small-d)),
       (
         finished-small {P = problem s} small (e .ended .plan .one) (c .before .before .before .before .finish2 .ensures .totals),

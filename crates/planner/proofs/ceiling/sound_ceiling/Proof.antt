@@ -1,4 +1,5 @@
 -- `planner::ceiling::sound_ceiling` meets its contract: the least-rate plan under the ceiling, or a second pass that tells 8 from 9. Assumes nothing.
+use Rattle.tables.specs.Law.{law-of}
 use Rattle.criteria.specs.Choice.{Problem}
 use Rattle.tables.specs.Tables.{table, planning}
 use Rattle.laws.proofs.Tests.{never}
@@ -51,7 +52,7 @@ returns-3 c =
     let p = c .before .before .before .before .before .before .before .before .before .before .before .before .before .before .before .thrifty-pass .ensures in
     let q = c .before .before .before .before .before .before .before .before .before .before .thrifty-pass2 .ensures in
     says-none-allowed (s .pre) (framed-on (p .framed) (q .framed)) (c .before .before .before .before .before .close .ensures)
-    (λ t a. q .none (c .if2 .left) t (open-under (s .args .law) (sound-fit (s .pre)) t a))
+    (λ t a. q .none (c .if2 .left) t (open-under (law-of (s .args .law)) (sound-fit (s .pre)) t a))
 
 close-requires : tie.Need-close-requires
 close-requires c κs =

@@ -1,4 +1,5 @@
 -- `planner::minmax::minmax_that_fits` meets its contract: the least ceiling, and the least-rate plan under it. Assumes nothing.
+use Rattle.tables.specs.Law.{law-of}
 use Rattle.criteria.specs.Choice.{Problem}
 use Rattle.tables.specs.Tables.{table, planning}
 use native.Mathlib.Omega.{arith}
@@ -13,7 +14,7 @@ abbrev problem : tie.Start → Problem
 problem s = planning (table (s .args .scans) (s .args .settings) (s .args .law) (s .args .rates .now) (s .args .distortions .now))
 
 number-to-cell-requires : tie.Need-number-to-cell-requires
-number-to-cell-requires c κs = omega (arith, peak-bound (c .before .before .before .before .args .law) (c .before .before .before .before .pre .0 .0) (c .before .before .before .before .pre .1))
+number-to-cell-requires c κs = omega (arith, peak-bound (law-of (c .before .before .before .before .args .law)) (c .before .before .before .before .pre .0 .0) (c .before .before .before .before .pre .1))
 
 least-ceiling-requires : tie.Need-least-ceiling-requires
 least-ceiling-requires c κs = (c .before .before .before .before .before .before .pre .0 .0, thrifty-fits (c .before .number-to-cell .ensures) (c .before .before .before .before .before .before .pre .1))

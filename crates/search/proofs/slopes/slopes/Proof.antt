@@ -1,6 +1,7 @@
 -- `search::slopes::slopes` meets its contract: the bracket narrows until a plan ties. The measure is its width in rate. Assumes nothing.
 use mathlib.Core.Path.{refl}
 use Prim.Native.Nat.{_-_, _<_}
+use Rattle.tables.specs.Law.{law-of}
 use Rattle.criteria.specs.Choice.{Problem}
 use Rattle.tables.specs.Tables.{scratch-need, table, planning}
 use Rattle.seek.specs.Sought.{Framed}
@@ -39,7 +40,7 @@ multiplier-pass-requires : tie.Need-multiplier-pass-requires Inv-loop μ-loop
 multiplier-pass-requires c κs =
     let s = c .before .before .before .before .before .before in
     let i = c .before .before .loop .inv in
-    (fit-framed (s .pre .0) (i .1), slope-small (i .0) (sums-small (s .args .law) (s .pre .0)) (c .before .slope-of .ensures))
+    (fit-framed (s .pre .0) (i .1), slope-small (i .0) (sums-small (law-of (s .args .law)) (s .pre .0)) (c .before .slope-of .ensures))
 
 total-up-requires : tie.Need-total-up-requires Inv-loop μ-loop
 total-up-requires c κs =
@@ -51,7 +52,7 @@ ties-requires : tie.Need-ties-requires Inv-loop μ-loop
 ties-requires c κs =
     let s = c .before .before .before .before .before .before .before .before .before .before .before in
     let i = c .before .before .before .before .before .before .before .loop .inv in
-    let small = sums-small (s .args .law) (s .pre .0) in
+    let small = sums-small (law-of (s .args .law)) (s .pre .0) in
     let l = slope-small (i .0) small (c .before .before .before .before .before .before .slope-of .ensures) in (
       totals-cost-small {P = problem s} small (c .total-up .ensures) (pass-finds {P = problem s} (c .before .before .before .before .multiplier-pass .ensures) (i .0 .lo-plan) (lo-allowed (i .0)) .one) l,
       totals-cost-small {P = problem s} small (i .0 .lo-totals) (lo-allowed (i .0)) l,
@@ -65,7 +66,7 @@ returns c =
     let s = c .before .before .before .before .before .before .before .before .before .before .before .before .before in
     let i = c .before .before .before .before .before .before .before .before .before .loop .inv in
     let p = c .before .before .before .before .before .before .multiplier-pass .ensures in
-    let l = slope-small (i .0) (sums-small (s .args .law) (s .pre .0)) (c .before .before .before .before .before .before .before .before .slope-of .ensures) in
+    let l = slope-small (i .0) (sums-small (law-of (s .args .law)) (s .pre .0)) (c .before .before .before .before .before .before .before .before .slope-of .ensures) in
     record {
       ended = slope-ends (i .0) (c .before .before .before .before .before .before .before .before .slope-of .ensures) (pass-finds {P = problem s} p (i .0 .lo-plan) (lo-allowed (i .0))) (c .before .before .total-up .ensures) (c .before .ties .ensures) (c .if1 .taken);
       small-n = l .0;

@@ -1,4 +1,5 @@
 -- `seek::start::start` meets its contract: nothing fits where the least-rate plan does not. Assumes nothing.
+use Rattle.tables.specs.Law.{law-of}
 use Rattle.seek.specs.Started.{fits, none-allowed, none-fits}
 use Rattle.seek.proofs.SeekLaws.{wipe-fits, fit-framed, wiped-same, open-under, nothing-fits, thrifty-totals}
 use mathlib.Core.Path.{_∙_}
@@ -20,7 +21,7 @@ returns : tie.Need-returns
 returns c =
     let s = c .before .before .before .before .before .before .before .before .before .before .before .before in
     let p = c .before .before .before .before .before .before .before .thrifty-pass .ensures in
-    none-allowed (λ t a. p .none (not-true _ (c .before .before .before .before .if1 .taken)) t (open-under (s .args .law) (s .pre) t a)) (c .before .before .wipe .ensures ∙ wiped-same (p .framed))
+    none-allowed (λ t a. p .none (not-true _ (c .before .before .before .before .if1 .taken)) t (open-under (law-of (s .args .law)) (s .pre) t a)) (c .before .before .wipe .ensures ∙ wiped-same (p .framed))
 
 total-up-requires : tie.Need-total-up-requires
 total-up-requires c κs =
@@ -38,7 +39,7 @@ returns-2 c =
     let s = c .before .before .before .before .before .before .before .before .before .before .before .before .before .before .before .before in
     let p = c .before .before .before .before .before .before .before .before .before .before .before .thrifty-pass .ensures in
     let found = not-false _ (c .before .before .before .before .before .before .before .before .if1 .left) in
-    none-fits (nothing-fits (s .args .law) (s .pre) p found (c .before .before .before .before .before .before .total-up .ensures .rate) (c .before .before .before .before .if2 .taken)) (c .before .before .wipe2 .ensures ∙ wiped-same (p .framed))
+    none-fits (nothing-fits (law-of (s .args .law)) (s .pre) p found (c .before .before .before .before .before .before .total-up .ensures .rate) (c .before .before .before .before .if2 .taken)) (c .before .before .wipe2 .ensures ∙ wiped-same (p .framed))
 
 same-length-3 : tie.Need-same-length-3
 same-length-3 c = search needs
@@ -48,7 +49,7 @@ returns-3 c =
     let s = c .before .before .before .before .before .before .before .before .before .before .before .before in
     let p = c .before .before .before .before .before .before .before .thrifty-pass .ensures in
     let found = not-false _ (c .before .before .before .before .if1 .left) in
-    fits (thrifty-totals (s .args .law) (s .pre) p found (c .before .before .total-up .ensures) (c .if2 .left)) (p .framed)
+    fits (thrifty-totals (law-of (s .args .law)) (s .pre) p found (c .before .before .total-up .ensures) (c .if2 .left)) (p .framed)
 
 pub start-spec : {M : Type 1} → statement M
 start-spec =

@@ -1,23 +1,24 @@
--- `trellis::pass::pass` meets its contract: the scans after i are done, and scan 0 answers. Assumes nothing.
+-- `trellis::pass::pass` meets its contract: it is made of steps, and scan 0 answers. Assumes nothing.
 use native.Mathlib.Omega.{arith}
 use borrow.Author.Needs.{needs}
 use mathlib.Core.Path.{_≡_, refl, _∙_}
 use mathlib.Core.List.{[]}
-use Prim.Native.Nat.{ℕ, _+_, _-_, _*_, _≤_, _<_}
+use Prim.Native.Nat.{_+_, _-_, _*_, _<_}
 use lib.ListN.{length, getD, getD-replicate}
-use Rattle.tables.specs.Tables.{Table, table, scratch-need}
+use Rattle.tables.specs.Tables.{Table, table}
 use Rattle.tables.proofs.CellLaws.{square-small, squares-small}
-use Rattle.tables.proofs.LawLaws.{any-all}
 use Rattle.trellis.specs.Square.{Sixteen}
 use Rattle.trellis.proofs.ChoiceLaws.{need-more}
-use Rattle.trellis.proofs.PassLaws.{Done, done-none, done-more, ready, sixteen-zero, square-ends, pass-none, pass-some}
+use Rattle.trellis.specs.Made.{SteppedTo, unstepped, stepped}
+use Rattle.trellis.proofs.PassLaws.{ready, sixteen-zero, square-ends}
+use Rattle.trellis.proofs.MadeLaws.{stepped-long, stepped-done, pass-made}
 use Rattle.trellis.proofs.pass.pass.Statement.{statement}
 use Rattle.trellis.proofs.pass.pass.Tie as tie
 
 abbrev Inv-loop : tie.InvT-loop
 Inv-loop scans settings law rule rates distortions scratch₀ keys₀ rate-square₀ distortion-square₀ size i₀ scratch keys rate-square distortion-square i =
-    (i < scans) × ((length scratch ≡ length scratch₀) × (((j : ℕ) → scratch-need scans settings ≤ j → getD scratch j 0 ≡ getD scratch₀ j 0) ×
-    ((length keys ≡ 16) × (Sixteen rate-square × (Sixteen distortion-square × Done (table scans settings law rates distortions) rule i scratch keys)))))
+    (i < scans) × ((length keys ≡ 16) × (Sixteen rate-square × (Sixteen distortion-square ×
+    SteppedTo (table scans settings law rates distortions) rule scratch₀ i keys scratch)))
 
 abbrev μ-loop : tie.MeasureT-loop
 μ-loop scans settings law rule rates distortions scratch₀ keys₀ rate-square₀ distortion-square₀ size i₀ scratch keys rate-square distortion-square i = i
@@ -36,7 +37,7 @@ loop-holds : tie.Need-loop-holds Inv-loop μ-loop
 loop-holds c =
     let s = c .before .before .before in (
       omega (arith, s .pre .0 .some-scans),
-      (refl, ((λ j h. refl), (refl, (sixteen-zero, (sixteen-zero, done-none (over s) (s .args .rule) (s .pre .0) (s .pre .1) _ _ _ refl (λ p h. getD-replicate 16 p 0 0 (omega (arith, s .pre .0 .settings)))))))),
+      (refl, (sixteen-zero, (sixteen-zero, unstepped refl (λ p h. getD-replicate 16 p 0 0 (omega (arith, s .pre .0 .settings)))))),
     )
 
 sub-at : tie.Need-sub-at Inv-loop μ-loop
@@ -59,7 +60,7 @@ square-into-requires c κs =
       s .pre .0 .settings,
       (
         omega (arith, s .pre .0 .rates-long, square-ends (s .args .scans) (s .args .settings) (l .i) (c .before .loop-test .taken) (l .inv .0)),
-        l .inv .1 .1 .1 .1 .0,
+        l .inv .1 .1 .0,
       ),
     )
 
@@ -70,7 +71,7 @@ square-into-requires-2 c κs =
       s .pre .0 .settings,
       (
         omega (arith, s .pre .0 .distortions-long, square-ends (s .args .scans) (s .args .settings) (l .i) (c .before .before .before .loop-test .taken) (l .inv .0)),
-        l .inv .1 .1 .1 .1 .1 .0,
+        l .inv .1 .1 .1 .0,
       ),
     )
 
@@ -83,7 +84,7 @@ step-requires c κs =
         s .pre .0 .settings,
         (
           omega (arith, l .inv .0, s .pre .0 .scans),
-          (omega (arith, need-more (a .scans) (a .settings) (l .i) (l .inv .0), s .pre .0 .room, l .inv .1 .0), l .inv .1 .1 .1 .0),
+          (omega (arith, need-more (a .scans) (a .settings) (l .i) (l .inv .0), s .pre .0 .room, stepped-long (l .inv .1 .1 .1 .1)), l .inv .1 .0),
         ),
       ),
       (
@@ -92,7 +93,7 @@ step-requires c κs =
             ready (over s) (a .rule) (s .pre .0) (s .pre .1)
             (getD (c .before .before .before .before .square-into .last .0) p []) (getD (c .before .before .square-into2 .last .0) p []) (l .keys)
             (λ q. a .settings + (l .i - 1) * (a .settings * a .settings) + p * a .settings + q)
-            (c .before .before .before .before .square-into .ensures .1 p h) (c .before .before .square-into2 .ensures .1 p h) (l .inv .1 .1 .1 .1 .1 .1 .row .capped),
+            (c .before .before .before .before .square-into .ensures .1 p h) (c .before .before .square-into2 .ensures .1 p h) (stepped-done (s .pre .0) (s .pre .1) (l .inv .1 .1 .1 .1) .row .capped),
       ),
     )
 
@@ -104,25 +105,17 @@ loop-less c = search needs
 
 loop-again : tie.Need-loop-again Inv-loop μ-loop
 loop-again c =
-    let s = c .before .before .before .before .before .before .before .before .before .before .before .before .before .before in
-    let a = s .args in
     let l = c .before .before .before .before .before .before .before .before .before .before .loop in
     let w = c .before .before .step .ensures in (
       omega (arith, l .inv .0),
       (
-        w .long ∙ l .inv .1 .0,
+        w .keys-long,
         (
-          (λ j h. w .beyond (a .scans) j (l .inv .0) h ∙ l .inv .1 .1 .0 j h),
+          c .before .before .before .before .before .before .before .square-into .ensures .0,
           (
-            w .keys-long,
-            (
-              c .before .before .before .before .before .before .before .square-into .ensures .0,
-              (
-                c .before .before .before .before .before .square-into2 .ensures .0,
-                done-more (over s) (a .rule) (s .pre .0) (s .pre .1) (c .before .before .before .before .before .before .before .before .before .loop-test .taken)
-                    (c .before .before .before .before .before .before .before .square-into .ensures .1) (c .before .before .before .before .before .square-into2 .ensures .1) w (omega arith) (l .inv .1 .1 .1 .1 .1 .1),
-              ),
-            ),
+            c .before .before .before .before .before .square-into2 .ensures .0,
+            stepped {i = l .i} {j = l .i - 1} (omega (arith, c .before .before .before .before .before .before .before .before .before .loop-test .taken)) (l .inv .0) (c .before .before .before .before .before .before .before .square-into .ensures .1) (c .before .before .before .before .before .square-into2 .ensures .1) w
+                (l .inv .1 .1 .1 .1),
           ),
         ),
       ),
@@ -134,27 +127,17 @@ row-into-requires c κs = let s = c .before .before .before .before .before .bef
 row-into-requires-2 : tie.Need-row-into-requires-2 Inv-loop μ-loop
 row-into-requires-2 c κs = let s = c .before .before .before .before .before .before .before .before in (s .pre .0 .settings, (omega (arith, s .pre .0 .distortions-long), refl))
 
-run-requires : tie.Need-run-requires Inv-loop μ-loop
-run-requires c κs = let s = c .before .before .before .before .before .before .before .before .before in (s .pre .0 .some-settings, s .pre .0 .settings)
-
--- scan 0 may have every setting
-every : (c : tie.After-run Inv-loop μ-loop) →
-    (c .run .result .from ≡ 0) × (c .run .result .to ≡ c .before .before .before .before .before .before .before .before .before .before .args .settings)
-every c = any-all (c .before .before .before .before .before .before .before .before .before .before .pre .0 .some-settings) (c .run .ensures)
-
 pick-requires : tie.Need-pick-requires Inv-loop μ-loop
 pick-requires c κs =
-    let s = c .before .before .before .before .before .before .before .before .before .before .before .before .before .before in
+    let s = c .before .before .before .before .before .before .before .before .before .before .before .before .before in
     let a = s .args in
-    let l = c .before .before .before .before .before .before .before .before .before .before .loop in
-    let z = every (c .before .before .before .before) in (
-      (omega (arith, z .0, z .1), omega (arith, z .1, s .pre .0 .settings)),
+    let l = c .before .before .before .before .before .before .before .before .before .loop in (
+      (omega arith, omega (arith, s .pre .0 .settings)),
       (
         s .pre .1,
         (
-          rw (z .1)
-              (ready (over s) (a .rule) (s .pre .0) (s .pre .1) (c .before .before .before .before .before .before .before .row-into .last .0) (c .before .before .before .before .before .row-into2 .last .0) (l .keys) (λ q. 0 + q)
-              (c .before .before .before .before .before .before .before .row-into .ensures .1) (c .before .before .before .before .before .row-into2 .ensures .1) (l .inv .1 .1 .1 .1 .1 .1 .row .capped)),
+          λ q h. ready (over s) (a .rule) (s .pre .0) (s .pre .1) (c .before .before .before .before .before .before .row-into .last .0) (c .before .before .before .before .row-into2 .last .0) (l .keys) (λ q. 0 + q)
+              (c .before .before .before .before .before .before .row-into .ensures .1) (c .before .before .before .before .row-into2 .ensures .1) (stepped-done (s .pre .0) (s .pre .1) (l .inv .1 .1 .1 .1) .row .capped) q (omega (arith, h, s .pre .0 .some-settings)),
           refl,
         ),
       ),
@@ -162,36 +145,39 @@ pick-requires c κs =
 
 store-requires : tie.Need-store-requires Inv-loop μ-loop
 store-requires c κs =
-    let s = c .before .before .before .before .before .before .before .before .before .before .before .before .before .before .before .before in
-    let l = c .before .before .before .before .before .before .before .before .before .before .before .before .loop in (
+    let s = c .before .before .before .before .before .before .before .before .before .before .before .before .before .before .before in
+    let l = c .before .before .before .before .before .before .before .before .before .before .before .loop in (
       (s .pre .0 .settings, (omega arith, s .pre .0 .some-settings)),
       (
-        omega (arith, c .before .pick .ensures .1 .inside, every (c .before .before .before .before .before .before) .1, s .pre .0 .settings),
-        omega (arith, need-more (s .args .scans) (s .args .settings) 0 (s .pre .0 .some-scans), s .pre .0 .room, l .inv .1 .0),
+        omega (arith, c .before .pick .ensures .1 .inside, s .pre .0 .settings),
+        omega (arith, need-more (s .args .scans) (s .args .settings) 0 (s .pre .0 .some-scans), s .pre .0 .room, stepped-long (l .inv .1 .1 .1 .1)),
       ),
     )
 
 same-length : tie.Need-same-length Inv-loop μ-loop
-same-length c = c .before .before .before .store .ensures .long ∙ c .before .before .before .before .before .before .before .before .before .before .before .before .before .before .before .before .loop .inv .1 .0
+same-length c = c .before .before .before .store .ensures .long ∙ stepped-long (c .before .before .before .before .before .before .before .before .before .before .before .before .before .before .before .loop .inv .1 .1 .1 .1)
 
 returns : tie.Need-returns Inv-loop μ-loop
 returns c =
-    let s = c .before .before .before .before .before .before .before .before .before .before .before .before .before .before .before .before .before .before .before .before in
-    let a = s .args in
-    let l = c .before .before .before .before .before .before .before .before .before .before .before .before .before .before .before .before .loop in
-    let e : l .i ≡ 0 = omega (arith, c .before .before .before .before .before .before .before .before .before .before .before .before .before .before .before .loop-test .left) in
-    let d = rw e at (l .inv .1 .1 .1 .1 .1 .1) in
-    let w = c .before .before .before .store .ensures in
-    let z = every (c .before .before .before .before .before .before .before .before .before .before) in
-    let b = rw (z .0, z .1) at (c .before .before .before .before .before .pick .ensures .1) in
-    let rs = c .before .before .before .before .before .before .before .before .before .before .before .before .before .row-into in
-    let ds = c .before .before .before .before .before .before .before .before .before .before .before .row-into2 in
-    record {
-      none = pass-none (over s) (a .rule) (s .pre .0) (s .pre .1) (rs .last .0) (ds .last .0) d w (rs .ensures .1) (ds .ensures .1) b;
-      some = pass-some (over s) (a .rule) (s .pre .0) (s .pre .1) (rs .last .0) (ds .last .0) d w (rs .ensures .1) (ds .ensures .1) b;
-      long = w .long ∙ l .inv .1 .0;
-      rest = λ j h. w .beyond (a .scans) j (s .pre .0 .some-scans) h ∙ l .inv .1 .1 .0 j h;
-    }
+    let s = c .before .before .before .before .before .before .before .before .before .before .before .before .before .before .before .before .before .before .before in
+    let l = c .before .before .before .before .before .before .before .before .before .before .before .before .before .before .before .loop in
+    let e : l .i ≡ 0 = omega (arith, c .before .before .before .before .before .before .before .before .before .before .before .before .before .before .loop-test .left) in
+    let rs = c .before .before .before .before .before .before .before .before .before .before .before .before .row-into in
+    let ds = c .before .before .before .before .before .before .before .before .before .before .row-into2 in
+    pass-made (s .pre .0) (s .pre .1) (record {
+      keys = l .keys;
+      scratch = l .scratch;
+      steps = rw e at (l .inv .1 .1 .1 .1);
+      rates = rs .last .0;
+      distortions = ds .last .0;
+      rates-of = rs .ensures .1;
+      distortions-of = ds .ensures .1;
+      least = c .before .before .before .before .before .pick .result .key .0;
+      first = c .before .before .before .before .before .pick .result .first;
+      best = c .before .before .before .before .before .pick .ensures .1;
+      stored = c .before .before .before .store .ensures;
+      told = refl;
+    })
 
 pub pass-spec : {M : Type 1} → statement M
 pass-spec =
@@ -213,7 +199,6 @@ pass-spec =
     loop-again
     row-into-requires
     row-into-requires-2
-    run-requires
     pick-requires
     store-requires
     same-length

@@ -24,7 +24,7 @@ ranged c =
     let s = c .before .before .before .before .before .before .cell-to-number in
     let q = c .before .before .before .before .cell-to-number2 in
     c .ranges .ensures
-    ∙ ap (λ (b : Bool). first-refusal (range-checks most-scans (s .result) (q .result) b)) (c .before .unknown .ensures ∙ ap law-out (c .before .before .cell-to-number3 .ensures .0))
+    ∙ ap (λ (b : Bool). first-refusal (range-checks most-scans (s .result) (q .result) b)) (c .before .no-law .ensures ∙ ap law-out (c .before .before .cell-to-number3 .ensures .0))
     ∙ ap (λ (x : ℕ). first-refusal (range-checks most-scans x (q .result) (law-out (law n)))) (s .ensures .0)
     ∙ ap (λ (x : ℕ). first-refusal (range-checks most-scans (scans n) x (law-out (law n)))) (q .ensures .0)
 
@@ -58,8 +58,8 @@ shared-slice-read-cell-to-number-3 c = search needs
 cell-to-number-requires-3 : tie.Need-cell-to-number-requires-3
 cell-to-number-requires-3 c κs = search needs
 
-unknown-requires : tie.Need-unknown-requires
-unknown-requires c κs = search needs
+no-law-requires : tie.Need-no-law-requires
+no-law-requires c κs = search needs
 
 ranges-requires : tie.Need-ranges-requires
 ranges-requires c κs = search needs
@@ -72,7 +72,7 @@ enum-told c = search needs
 
 count-requires : tie.Need-count-requires
 count-requires c κs =
-    let r = in-ranges most-scans _ _ (c .before .before .before .unknown .result) (sym (c .before .before .ranges .ensures) ∙ ap ended (c .enum-told .given .1)) in
+    let r = in-ranges most-scans _ _ (c .before .before .before .no-law .result) (sym (c .before .before .ranges .ensures) ∙ ap ended (c .enum-told .given .1)) in
     (r .0 .0, (r .0 .1, r .1 .1))
 
 returns : tie.Need-returns
@@ -99,7 +99,7 @@ first-four-spec =
     cell-to-number-requires-2
     shared-slice-read-cell-to-number-3
     cell-to-number-requires-3
-    unknown-requires
+    no-law-requires
     ranges-requires
     enum-known-ranged
     enum-told
