@@ -1,8 +1,9 @@
 /* The worked tables of document 01 ("Bench tables", the "Others" too) and its room figures, lists of table T by the rules of document 02,
- * [1], and table V, of which each law has another plan, by those of [2], through the archive: of planning calls every value, every byte of
- * every buffer, and guard bytes on both sides of each; of files the fields, the settings, the letters, the first packed byte, and guard
- * bytes; of lists every cell and byte, and guards. What is expected is written out by hand: of document 01 its own figures, of lists and of
- * table V what the rules give. */
+ * [1], table V, of which each law has another plan, by those of [2], and illegal cells at every place of a table, of which the walk of [3]
+ * must lose none, through the archive: of planning calls every value, every byte of every buffer, and guard bytes on both sides of each; of
+ * files the fields, the settings, the letters, the first packed byte, and guard bytes; of lists every cell and byte, and guards; of illegal
+ * cells what goes back, and that a refusal leaves every buffer as it was. What is expected is written out by hand: of document 01 its own
+ * figures, of the others what the rules give. */
 #include "lent.h"
 #include "qpl.h"
 
@@ -161,6 +162,93 @@ static const expected all[] = {
     {"V, law 3, average 7", &V3, AVERAGE, 7, 0, 3, 0, 0, {0}, {0}},
     {"V, law 2^32 + 2, average 7", &WIDE, AVERAGE, 7, 0, 3, 0, 0, {0}, {0}},
 };
+
+/* Table T with two of its rates and a distortion changed (a change to what stands there changes nothing), and what every planning call and an
+ * export must give back: 7 at the lowest illegal cell of both tables, or 0 where all are legal. */
+typedef struct {
+    const char *what;
+    size_t rate_at, second_at, distortion_at;
+    uint32_t rate, second, distortion;
+    uint64_t right;
+} changed_cells;
+
+#define SEVEN(cell) (7 | (uint64_t)(cell) << 32)
+static const changed_cells changes[] = {
+    {"rate 3 and distortion 2 over the range: 7, at 2", 3, 4, 2, 1048576, 9, 1048576, SEVEN(2)},
+    {"a distortion of any value beside forbidden rate 2, rate 5 nearly the marker: 7, at 5", 2, 5, 2, F, F - 1, F, SEVEN(5)},
+    {"rate and distortion 4 over the range: 7, at 4", 4, 5, 4, 1048576, 5, 1048576, SEVEN(4)},
+    {"distortion 5 over the range: 7, at 5", 0, 1, 5, 10, 4, 1048576, SEVEN(5)},
+    {"rate 0 and distortion 0 over the range: 7, at 0", 0, 1, 0, 1048576, 4, 1048576, SEVEN(0)},
+    {"rates 1 and 4 over the range, distortion 5 too: 7, at 1", 1, 4, 5, 1048576, F - 1, F, SEVEN(1)},
+    {"a distortion of any value beside forbidden rate 0: all legal", 0, 1, 0, F, 4, F, 0},
+    {"cells at the top of their range: all legal", 3, 4, 5, 1048575, 1048575, 1048575, 0},
+};
+
+static int named_by_every_call(const changed_cells *c) {
+    uint32_t rates[6], distortions[6];
+    table t = {2, 2, 0, rates, distortions, 6};
+    lent text = lend(128, 13), length = lend(QPL_EXPORT_ANSWER, 50);
+    int which, good = 1;
+    memcpy(rates, t_rates, sizeof rates);
+    memcpy(distortions, t_distortions, sizeof distortions);
+    rates[c->rate_at] = c->rate, rates[c->second_at] = c->second, distortions[c->distortion_at] = c->distortion;
+    for (which = CEILING; which <= AVERAGE; which++) {
+        lent plan = lend(2, 13), scratch = lend(4, 100), answer = lend(answer_lengths[which], 50);
+        expected e = {c->what, &t, (enum call)which, 4294967295, 1, 0, 0, 0, {0}, {0}};
+        e.limit = which == MULTIPLIER ? 1 : e.limit;
+        good = good && ask(&e, &plan, &scratch, &answer) == c->right;
+        good = good && (c->right == 0 || (holds(&plan, 0, NULL, 13) && holds(&scratch, 0, NULL, 100) && holds(&answer, 0, NULL, 50)));
+        give_back(&plan);
+        give_back(&scratch);
+        give_back(&answer);
+    }
+    good = good && qpl_export(2, 2, rates, 6, distortions, 6, text.bytes, text.length, length.bytes, length.length) == c->right;
+    good = good && (c->right == 0 || (holds(&text, 0, NULL, 13) && holds(&length, 0, NULL, 50)));
+    give_back(&text);
+    give_back(&length);
+    return good;
+}
+
+/* Every cell of tables of this size in turn, its rate, its distortion, or one of these and the other of the cell behind it over the range: 7 at
+ * that cell. The tables stand in memory of their own that ends where they do. */
+static int every_cell(uint64_t scans, uint64_t settings) {
+    size_t cells = (size_t)(settings + (scans - 1) * settings * settings), k;
+    uint32_t *rates = (uint32_t *)malloc(4 * cells), *distortions = (uint32_t *)malloc(4 * cells);
+    lent plan = lend((size_t)scans, 13), scratch = lend((size_t)(scans * settings), 100), answer = lend(QPL_CEILING_ANSWER, 50);
+    int turn, good = rates != NULL && distortions != NULL;
+    for (k = 0; good && k < cells; k++) rates[k] = 1048575 - (uint32_t)k, distortions[k] = (uint32_t)k % 7;
+    for (k = 0; good && k < cells; k++)
+        for (turn = 0; turn < 4; turn++) {
+            uint32_t *here = turn % 2 ? distortions + k : rates + k, *behind = turn % 2 ? rates : distortions;
+            uint32_t cell = *here, next = 0;
+            behind = turn >= 2 && k + 1 < cells ? behind + k + 1 : &next;
+            next = *behind;
+            *here = 1048576 + (uint32_t)k, *behind = 1048576;
+            good = good && qpl_ceiling(scans, settings, 1, 9, rates, cells, distortions, cells, plan.bytes, plan.length, scratch.bytes,
+                                       scratch.length, answer.bytes, answer.length) == SEVEN(k);
+            *behind = next, *here = cell;
+        }
+    good = good && holds(&plan, 0, NULL, 13) && holds(&scratch, 0, NULL, 100) && holds(&answer, 0, NULL, 50);
+    good = good && qpl_ceiling(scans, settings, 1, 9, rates, cells, distortions, cells, plan.bytes, plan.length, scratch.bytes,
+                               scratch.length, answer.bytes, answer.length) == 0;
+    give_back(&plan);
+    give_back(&scratch);
+    give_back(&answer);
+    free(rates);
+    free(distortions);
+    return good;
+}
+
+static void illegal_cells(void) {
+    uint64_t scans;
+    int good = 1;
+    size_t k;
+    for (k = 0; k < sizeof changes / sizeof changes[0]; k++) expect(changes[k].what, named_by_every_call(&changes[k]));
+    for (scans = 1; scans <= 40; scans++) good = good && every_cell(scans, 1);
+    expect("every cell of tables of 1 to 40 cells", good);
+    expect("every cell of a table of 84 cells", every_cell(10, 3));
+    expect("every cell of a table of 4,112 cells", every_cell(17, 16));
+}
 
 /* How many of the 16 sequences of 2 scans and 4 settings the law allows: each in turn is the only one whose cells are open. -1 where they
  * are not those with a 'y' in `right`, which has 0 0, 0 1 and so on to 3 3: law 2 turned round allows as many, but others. */
@@ -460,6 +548,7 @@ int main(void) {
     named();
     files();
     laws();
+    illegal_cells();
     import_export();
     printf("%d passed, %d failed\n", passed, failed);
     return failed != 0;

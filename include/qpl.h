@@ -70,9 +70,9 @@ extern "C" {
 /* A call takes at most this much stack, in bytes from the caller's stack pointer at the call. That is measured, and not proved.
  *
  * host/stack.c runs the calls of the x86-64 archive on a painted stack and finds the deepest byte that changed, the return address counted:
- * room 96, read 688, write 624, ceiling 5,520, multiplier 5,536, minmax 5,568, average 5,680, import 328, export 528. It runs the largest
+ * room 96, read 704, write 624, ceiling 5,336, multiplier 5,352, minmax 5,384, average 5,496, import 328, export 528. It runs the largest
  * tables, small ones, refusals, and n and d that are consecutive Fibonacci numbers. The frames in the disassembly, read by hand, all have
- * fixed sizes and agree to 16 bytes: the deepest chain of calls, from qpl_average through the pass to the choice of a row, takes 5,683. Two
+ * fixed sizes and agree to 16 bytes: the deepest chain of calls, from qpl_average through the pass to a memcpy, takes 5,496. Two
  * functions call themselves: the lowest terms of n/d, 64 bytes each time, at most 44 times, and never while a pass is on the stack; and the
  * digits of a number in qpl_export, 48 bytes each time, at most 7 times. The common divisor and the width of a number have become loops.
  *

@@ -8,32 +8,18 @@
  *   lists FILE      writes the longest list to FILE, for lists.py */
 #define _POSIX_C_SOURCE 199309L
 #include "lists.h"
+#include "turns.h"
 
 #include <stdio.h>
-#include <stdlib.h>
-#include <time.h>
 
 #define SCANS 1024
 #define SETTINGS 16
 #define CELLS (16 + 1023 * 256)
 #define LONGEST 6722470
-#define TURNS 31
 
 /* The tables as they are exported, and what each version leaves: tables, text, scratch. */
 static uint32_t rates[CELLS], distortions[CELLS], taken_rates[2][CELLS], taken_distortions[2][CELLS];
 static uint8_t texts[2][LONGEST + 1], scratch[2][CELLS], answers[2][QPL_EXPORT_ANSWER];
-
-static double now(void) {
-    struct timespec t;
-    clock_gettime(CLOCK_MONOTONIC, &t);
-    return (double)t.tv_sec * 1e6 + (double)t.tv_nsec / 1e3;
-}
-
-static uint64_t state = 1;
-static uint32_t drawn(uint32_t below) {
-    state = state * 6364136223846793005u + 1442695040888963407u;
-    return (uint32_t)((state >> 33) % below);
-}
 
 /* Random cells from `from` to below `to`. */
 static void fill(uint32_t from, uint32_t to) {
@@ -71,16 +57,6 @@ static int agree(enum call which, size_t length) {
 static int refuse(size_t length) {
     texts[1][length] = 'x';
     return called(0, IMPORT, length + 1) == called(1, IMPORT, length + 1) && called(1, IMPORT, length + 1) == refused(16, CELLS + 1);
-}
-
-static int compare(const void *a, const void *b) {
-    double x = *(const double *)a, y = *(const double *)b;
-    return (x > y) - (x < y);
-}
-
-static double median(double *took) {
-    qsort(took, TURNS, sizeof(double), compare);
-    return took[TURNS / 2];
 }
 
 static int row(enum call which, const char *what, size_t length) {

@@ -3,13 +3,12 @@
  *
  * So an import walks over the text twice, and both walks read a line by the same function. A second walk that trusts the text and steps over
  * quotes without asking was tried, and is slower: there each field waits for the one before it, and here the processor guesses. */
+#include "cells.h"
 #include "qpl.h"
 
 #include <stddef.h>
 #include <stdint.h>
 #include <string.h>
-
-#define MOST_CELL 1048575u
 
 static uint64_t refused(uint64_t number, uint64_t carried) { return number | carried << 32; }
 

@@ -1,6 +1,7 @@
 /* The planner as it would be written by hand in C, for comparison: the same passes, backward over the scans with two keys for each setting
  * before, and the same searches over them. REFERENCE names the file's functions, LOOP is the inner loop over the settings of a row.
  * It checks nothing but what it is told to: `checked` asks for the walk that finds an illegal cell. */
+#include "cells.h"
 #include "qpl.h"
 
 #include <stddef.h>
@@ -8,8 +9,6 @@
 #include <string.h>
 
 #define NONE UINT64_MAX
-#define FORBIDDEN 4294967295u
-#define MOST_CELL 1048575u
 
 typedef struct {
     const uint32_t *rates, *distortions;
@@ -100,11 +99,8 @@ static sums walk(const job *j, uint8_t *plan) {
     return t;
 }
 
-static int illegal(const job *j) {
-    size_t cells = j->settings + (j->scans - 1) * j->settings * j->settings;
-    for (size_t i = 0; i < cells; i++)
-        if (j->rates[i] != FORBIDDEN && (j->rates[i] > MOST_CELL || j->distortions[i] > MOST_CELL)) return 1;
-    return 0;
+static int some_illegal(const job *j) {
+    return illegal(j->rates, j->distortions, j->settings + (j->scans - 1) * j->settings * j->settings);
 }
 
 static uint64_t divisor(uint64_t a, uint64_t b) { return b ? divisor(b, a % b) : a; }
@@ -113,13 +109,13 @@ static uint64_t divisor(uint64_t a, uint64_t b) { return b ? divisor(b, a % b) :
  * no plan. */
 #define CALLS(name)                                                                                                                         \
     static size_t name##_multiplier(const job *j, uint64_t n, uint64_t d, int checked, uint8_t *plan, uint64_t *v) {                        \
-        if ((checked && illegal(j)) || !name##_cost(j, n, d)) return 0;                                                                     \
+        if ((checked && some_illegal(j)) || !name##_cost(j, n, d)) return 0;                                                                \
         sums t = walk(j, plan);                                                                                                             \
         v[QPL_MULTIPLIER_RATE] = t.rate, v[QPL_MULTIPLIER_DISTORTION] = t.distortion, v[QPL_MULTIPLIER_PEAK] = t.peak;                      \
         return 3;                                                                                                                           \
     }                                                                                                                                       \
     static size_t name##_average(const job *j, uint64_t budget, int checked, uint8_t *plan, uint64_t *v) {                                  \
-        if ((checked && illegal(j)) || !name##_thrifty(j, FORBIDDEN)) return 0;                                                             \
+        if ((checked && some_illegal(j)) || !name##_thrifty(j, FORBIDDEN)) return 0;                                                        \
         sums lo = walk(j, NULL);                                                                                                            \
         if (lo.rate > budget) return 0;                                                                                                     \
         uint64_t n = 0, d = 1;                                                                                                              \
@@ -146,7 +142,7 @@ static uint64_t divisor(uint64_t a, uint64_t b) { return b ? divisor(b, a % b) :
         return 6;                                                                                                                           \
     }                                                                                                                                       \
     static size_t name##_minmax(const job *j, uint64_t budget, int checked, uint8_t *plan, uint64_t *v) {                                   \
-        if ((checked && illegal(j)) || !name##_thrifty(j, FORBIDDEN)) return 0;                                                             \
+        if ((checked && some_illegal(j)) || !name##_thrifty(j, FORBIDDEN)) return 0;                                                        \
         sums t = walk(j, NULL);                                                                                                             \
         if (t.rate > budget) return 0;                                                                                                      \
         /* the least-rate plan fits, so that no ceiling over its peak is the least: the proved call starts there too */                     \

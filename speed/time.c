@@ -6,28 +6,14 @@
 #define _POSIX_C_SOURCE 199309L
 #include "qpl.h"
 #include "reference.h"
+#include "turns.h"
 
 #include <stdio.h>
-#include <stdlib.h>
-#include <time.h>
 
 #define MOST (16 + 1023 * 256)
-#define TURNS 31
 
 static uint32_t rates[MOST], distortions[MOST];
 static uint8_t scratch[16384], plans[3][1024];
-
-static double now(void) {
-    struct timespec t;
-    clock_gettime(CLOCK_MONOTONIC, &t);
-    return (double)t.tv_sec * 1e6 + (double)t.tv_nsec / 1e3;
-}
-
-static uint64_t state = 1;
-static uint32_t drawn(uint32_t below) {
-    state = state * 6364136223846793005u + 1442695040888963407u;
-    return (uint32_t)((state >> 33) % below);
-}
 
 /* Random cells; or smooth ones, where a higher setting takes fewer bits and leaves more error, and a rough scan before costs both. */
 static void fill(size_t scans, size_t settings, int smooth) {
@@ -75,16 +61,6 @@ static size_t by_hand(int version, enum call which, const job *j, uint64_t limit
         return version == 1 ? straight_multiplier(j, limit, 1, checked, plan, v) : least_multiplier(j, limit, 1, checked, plan, v);
     if (which == AVERAGE) return version == 1 ? straight_average(j, limit, checked, plan, v) : least_average(j, limit, checked, plan, v);
     return version == 1 ? straight_minmax(j, limit, checked, plan, v) : least_minmax(j, limit, checked, plan, v);
-}
-
-static int compare(const void *a, const void *b) {
-    double x = *(const double *)a, y = *(const double *)b;
-    return (x > y) - (x < y);
-}
-
-static double median(double *took) {
-    qsort(took, TURNS, sizeof(double), compare);
-    return took[TURNS / 2];
 }
 
 /* The time of one call of this version, which is repeated where the clock could not tell; its values, and how many there are. */

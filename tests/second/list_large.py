@@ -1,7 +1,8 @@
 """Long lists. They are exported from tables that a generator makes, and imported from what was exported, so that none is stored; tables and
-texts are shown by their digests."""
+texts are shown by their digests, but for the texts of exports that are refused for a cell."""
 
 from list_calls import DIGEST
+from plan_cells import illegal_at
 from planner import cells
 
 # of each table seed, base, span and forbid: every second cell forbidden; every one open; cells at the top of their range
@@ -44,6 +45,15 @@ def others(out):
         there_and_back(out, scans, settings, tables)
 
 
+def illegal(out):
+    """The largest tables, of which a cell behind 4,096 others is illegal, or the last one, or one in each table: no byte of text is written."""
+    scans, settings = 1024, 16
+    size = cells(scans, settings)
+    for rates, distortions in ((FULL[0], illegal_at(4096)), (illegal_at(size - 1), FULL[1]), (illegal_at(4096), illegal_at(4095))):
+        out.give_generated(scans, settings, rates, distortions, 40)
+
+
 def large_lists(out):
     others(out)
     largest(out)
+    illegal(out)

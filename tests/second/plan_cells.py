@@ -29,8 +29,8 @@ SPECIAL = [
 CODE = dict([(k, k) for k in range(240)] + [(cell, 240 + k) for k, cell in enumerate(SPECIAL)])
 LEGAL = [cell for cell in SPECIAL if cell <= MOST_CELL]
 
-# a generator's numbers are modulo this
-PRIME = 2 ** 31 - 1
+# each of a generator's numbers is the one before it times this, modulo this
+MULTIPLIED, PRIME = 48271, 2 ** 31 - 1
 
 
 class Cells:
@@ -60,6 +60,29 @@ def stream(size, seed, base, span, forbid):
     """A generator's cells, as crates/shown/src/stream.rt draws them."""
     x, out = seed % PRIME, []
     for _ in range(size):
-        x = x * 48271 % PRIME
+        x = x * MULTIPLIED % PRIME
         out.append(FORBIDDEN if forbid and x % forbid == 0 else base + x % span)
     return out
+
+
+def seed_of(k, x):
+    """The seed with which a generator draws cell k from the number x."""
+    return x * pow(MULTIPLIED, -(k + 1), PRIME) % PRIME
+
+
+def illegal_at(k, forbid=0, opened=()):
+    """A generator of which cell k is over the range, as the first, and the opened cells are not forbidden. A cell is 1 to 1,048,576, by a
+    number's remainder modulo 1,048,576."""
+    over = MOST_CELL + 1
+    for turn in range(PRIME // over):
+        made = (seed_of(k, MOST_CELL + turn * over), 1, over, forbid)
+        cells = stream(max((k, *opened)) + 1, *made)
+        legal = all(cell <= MOST_CELL or cell == FORBIDDEN for cell in cells[:k])
+        if legal and cells[k] == over and all(cells[j] != FORBIDDEN for j in opened):
+            return made
+    raise AssertionError("no seed for cell %d" % k)
+
+
+def legal_at(k, forbid):
+    """A generator of small cells of which cell k is not forbidden."""
+    return next(made for made in ((seed, 0, 1000, forbid) for seed in range(1, 100)) if stream(k + 1, *made)[k] != FORBIDDEN)

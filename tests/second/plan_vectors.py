@@ -6,6 +6,7 @@ import struct
 from crate_files import store
 from lines import counted
 from plan_calls import PlanCalls
+from plan_illegal import illegal_places
 from plan_large import large_tables
 from plan_laws import laws_apart
 from plan_random import small_tables
@@ -20,6 +21,7 @@ def make(into):
     refusals(out, draw)
     large_tables(out)
     laws_apart(out, draw)
+    illegal_places(out)
     # the source 0 ends the run
     stdin, stdout = b"".join(out.stdin) + struct.pack("<Q", 0), "".join(out.lines).encode()
     store(into, "plan_cases", stdin, stdout)

@@ -1,16 +1,10 @@
 -- From the code's tests to the words of definitions and back. Assumes nothing.
 use mathlib.Core.Path.{_≡_, refl}
-use mathlib.Core.Logic.{_↔_, _⊎_, inl, inr, ⊎-elim}
 use mathlib.Core.Bool.{Bool, true, false, not, _&&_, _||_}
 use Prim.Native.Nat.{ℕ, _≤_, _<_}
 use native.Mathlib.Omega.{arith}
-use lib.Dec.{ltb, eqb}
-use borrow.Author.Tests.{eqb-true, eq-eqb, ltb-false}
-use mathlib.Core.Path.{_≡_, refl}
-use mathlib.Core.Bool.{Bool, true, false}
-use Prim.Native.Nat.{ℕ, _≤_, _<_}
 use lib.Dec.{ltb}
-use borrow.Author.Tests.{ltb-true, ltb-false, eq-eqb}
+use borrow.Author.Tests.{ltb-true, ltb-false}
 
 -- 0 is not 1: what contradicting clauses of a definition by cases come to
 pub never : {A : Type 0} → _≡_ {A = ℕ} 0 1 → A
@@ -25,14 +19,6 @@ both false t e = never cc
 pub neither : (s t : Bool) → (s || t) ≡ false → (s ≡ false) × (t ≡ false)
 neither true t e = never cc
 neither false t e = (refl, e)
-
--- a test that is the first of two ways, and holds
-pub first-holds : {A B : Type 0} → A → (true ≡ true) ↔ (A ⊎ B)
-first-holds a = ((λ e. inl a), (λ w. refl))
-
--- where the first of two ways does not hold, the test is the second
-pub second-decides : {A : Type 0} (x y : ℕ) → (A → ⊥) → (eqb x y ≡ true) ↔ (A ⊎ (x ≡ y))
-second-decides x y no-a = ((λ e. inr (eqb-true x y e)), (λ w. ⊎-elim (λ a. absurd (no-a a)) (λ e. eq-eqb x y e) w))
 
 -- a test and its denial do not both hold
 pub clash : {t : Bool} → not t ≡ true → t ≡ true → ⊥

@@ -1,76 +1,99 @@
--- Legal cells: what the two walks find is the lowest illegal cell; there is at most one; and there is one or all are legal. Assumes nothing.
+-- Legal cells: there is a lowest illegal one or all are legal, of a run of cells and of a table; and there is at most one. Assumes nothing.
 use mathlib.Core.Path.{_≡_, refl}
 use mathlib.Core.Logic.{_⊎_, inl, inr}
 use mathlib.Core.Bool.{Bool, true, false}
+use mathlib.Core.Option.{Option}
 use mathlib.Core.List.{List}
 use Prim.Native.Nat.{ℕ, zero, suc, _≤_, _<_}
 use native.Mathlib.Decide.{decLt}
 use native.Mathlib.Omega.{arith}
-use lib.ListN.{length, getD}
-use Rattle.laws.proofs.Tests.{never}
-use Rattle.tables.specs.Legal.{LegalRate, LegalBeside, LegalCell, AllLegal, LowestIllegal, cell-illegal}
+use lib.ListN.{length}
+use Rattle.laws.proofs.Tests.{never, cases}
+use Rattle.tables.specs.Legal.{LegalCell, AllLegal, LowestIllegal, cell-illegal}
+use Rattle.tables.specs.declared.refusal.Refusal.{Refusal}
 use Rattle.tables.proofs.LegalTests.{legal-passes, passed-legal}
+use Rattle.legal.specs.Judged.{LegalRun, LowestInRun, RunJudged, run-legal, run-illegal}
 
 module _ (rates distortions : List ℕ) where
-  -- what the walks know: the first `end` rates are legal, and the next, if there is one, is not; of these the first k have legal
-  -- distortions, and the next, if there is one, has not
-  pub record TwoWalks (end k : ℕ) : Type 0 where
-    pub rates-within : end ≤ length rates
-    pub rates-before : (j : ℕ) → j < end → LegalRate (getD rates j 0)
-    pub rates-there : end < length rates → LegalRate (getD rates end 0) → ⊥
-    pub within : k ≤ end
-    pub before : (j : ℕ) → j < k → LegalBeside (getD rates j 0) (getD distortions j 0)
-    pub there : k < end → LegalBeside (getD rates k 0) (getD distortions k 0) → ⊥
-
-  pub walked-lowest : {end k : ℕ} → TwoWalks end k → k < length rates → LowestIllegal rates distortions k
-  walked-lowest {end} {k} w h = record {
-    inside = h;
-    illegal = λ l. at l (decLt k end);
-    lowest = λ j g. (w .rates-before j (omega (arith, w .within)), w .before j g);
-  }
+  -- a cell is legal or not
+  pub legal? : (k : ℕ) → LegalCell rates distortions k ⊎ (LegalCell rates distortions k → ⊥)
+  legal? k = of (cell-illegal rates distortions k) refl
     where
-      at : LegalCell rates distortions k → Dec (k < end) → ⊥
-      at l (yes g) = w .there g (l .1)
-      at l (no g) = let e : k ≡ end = omega (arith, w .within) in w .rates-there (omega arith) (rw (← e) (l .0))
+      of : (b : Bool) → cell-illegal rates distortions k ≡ b → LegalCell rates distortions k ⊎ (LegalCell rates distortions k → ⊥)
+      of false e = inl (passed-legal rates distortions k e)
+      of true e = inr (λ l. let z = legal-passes rates distortions k l in never cc)
 
-  pub walked-all : {end k : ℕ} → TwoWalks end k → length rates ≤ k → AllLegal rates distortions
-  walked-all w h j g =
-      (w .rates-before j (omega (arith, w .within)), w .before j (omega (arith, w .within)))
+  -- a run and its next cell: both legal; the run legal and the cell not; the run not
+  pub legal-more : {from to : ℕ} → LegalRun rates distortions from to → LegalCell rates distortions to → LegalRun rates distortions from (suc to)
+  legal-more {to = to} l c k g h = cases k to (λ u. l k g u) (λ u. let e : k ≡ to = omega arith in rw e c)
+
+  pub lowest-next : {from to : ℕ} → from ≤ to → LegalRun rates distortions from to → (LegalCell rates distortions to → ⊥) → LowestInRun rates distortions from (suc to) to
+  lowest-next h l n = record { behind = h; inside = omega arith; illegal = n; lowest = l }
+
+  pub lowest-more : {from to k : ℕ} → LowestInRun rates distortions from to k → LowestInRun rates distortions from (suc to) k
+  lowest-more p = record { behind = p .behind; inside = omega (arith, p .inside); illegal = p .illegal; lowest = p .lowest }
+
+  -- a run and the one behind it: both legal; the first legal and the second not
+  pub legal-on : {from middle to : ℕ} → LegalRun rates distortions from middle → LegalRun rates distortions middle to → LegalRun rates distortions from to
+  legal-on {middle = middle} l m k g h = cases k middle (λ u. l k g u) (λ u. m k u h)
+
+  pub lowest-on : {from middle to k : ℕ} → from ≤ middle → LegalRun rates distortions from middle → LowestInRun rates distortions middle to k → LowestInRun rates distortions from to k
+  lowest-on h l p = record { behind = omega (arith, p .behind); inside = p .inside; illegal = p .illegal; lowest = legal-on l (p .lowest) }
+
+  module _ {from to : ℕ} where
+    lowest-in-run-unique : {k k′ : ℕ} → LowestInRun rates distortions from to k → LowestInRun rates distortions from to k′ → k ≡ k′
+    lowest-in-run-unique {k} {k′} p q = by-order (decLt k k′) (decLt k′ k)
+      where
+        by-order : Dec (k < k′) → Dec (k′ < k) → k ≡ k′
+        by-order (yes h) g = absurd (p .illegal (q .lowest k (p .behind) h))
+        by-order (no h) (yes g) = absurd (q .illegal (p .lowest k′ (q .behind) g))
+        by-order (no h) (no g) = omega arith
+
+    not-both-in-run : {k : ℕ} → LowestInRun rates distortions from to k → LegalRun rates distortions from to → ⊥
+    not-both-in-run {k} p l = p .illegal (l k (p .behind) (p .inside))
+
+    -- a run has one answer
+    pub run-unique : {o o′ : Option Refusal} → RunJudged rates distortions from to o → RunJudged rates distortions from to o′ → o ≡ o′
+    run-unique (run-legal l) (run-legal l′) = refl
+    run-unique (run-legal l) (run-illegal p) = absurd (not-both-in-run p l)
+    run-unique (run-illegal p) (run-legal l) = absurd (not-both-in-run p l)
+    run-unique (run-illegal p) (run-illegal q) = rw (lowest-in-run-unique p q) refl
+
+  -- the first n cells
+  first-cells : (n : ℕ) → ((k : ℕ) × LowestInRun rates distortions 0 n k) ⊎ LegalRun rates distortions 0 n
+  first-cells zero = inr (λ k g h. absurd (omega arith))
+  first-cells (suc n) = from (first-cells n) (legal? n)
+    where
+      from : ((k : ℕ) × LowestInRun rates distortions 0 n k) ⊎ LegalRun rates distortions 0 n → LegalCell rates distortions n ⊎ (LegalCell rates distortions n → ⊥) →
+          ((k : ℕ) × LowestInRun rates distortions 0 (suc n) k) ⊎ LegalRun rates distortions 0 (suc n)
+      from (inl f) d = inl (f .0, lowest-more (f .1))
+      from (inr l) (inl c) = inr (legal-more l c)
+      from (inr l) (inr c) = inl (n, lowest-next (omega arith) l c)
+
+  -- a table is the run of all its cells
+  pub all-of-run : {to : ℕ} → length rates ≤ to → LegalRun rates distortions 0 to → AllLegal rates distortions
+  all-of-run h l k g = l k (omega arith) (omega arith)
+
+  pub lowest-of-run : {to k : ℕ} → to ≤ length rates → LowestInRun rates distortions 0 to k → LowestIllegal rates distortions k
+  lowest-of-run h p = record {
+    inside = omega (arith, p .inside);
+    illegal = p .illegal;
+    lowest = λ j g. p .lowest j (omega arith) g;
+  }
+
+  run-of-lowest : {k : ℕ} → LowestIllegal rates distortions k → LowestInRun rates distortions 0 (length rates) k
+  run-of-lowest p = record { behind = omega arith; inside = p .inside; illegal = p .illegal; lowest = λ j u g. p .lowest j g }
 
   pub lowest-illegal-unique : {k k′ : ℕ} → LowestIllegal rates distortions k → LowestIllegal rates distortions k′ → k ≡ k′
-  lowest-illegal-unique {k} {k′} p q = by-order (decLt k k′) (decLt k′ k)
-    where
-      by-order : Dec (k < k′) → Dec (k′ < k) → k ≡ k′
-      by-order (yes h) g = absurd (p .illegal (q .lowest k h))
-      by-order (no h) (yes g) = absurd (q .illegal (p .lowest k′ g))
-      by-order (no h) (no g) = omega arith
-
-  -- among the first n cells there is a lowest illegal one
-  abbrev LowestOf : ℕ → Type 0
-  LowestOf n = (k : ℕ) × (k < n) × (LegalCell rates distortions k → ⊥) × ((j : ℕ) → j < k → LegalCell rates distortions j)
-
-  -- .. or all are legal
-  up-to : (n : ℕ) → LowestOf n ⊎ ((j : ℕ) → j < n → LegalCell rates distortions j)
-  up-to zero = inr (λ j h. absurd (omega arith))
-  up-to (suc n) = from (up-to n) (cell-illegal rates distortions n) refl
-    where
-      from : LowestOf n ⊎ ((j : ℕ) → j < n → LegalCell rates distortions j) → (b : Bool) → cell-illegal rates distortions n ≡ b →
-          LowestOf (suc n) ⊎ ((j : ℕ) → j < suc n → LegalCell rates distortions j)
-      from (inl f) b e = inl (f .0, omega (arith, f .1), f .2, f .3)
-      from (inr l) true e = inl (n, omega arith, (λ c. let z = legal-passes rates distortions n c in never cc), l)
-      from (inr l) false e = inr (λ j h. at j h (decLt j n))
-        where
-          at : (j : ℕ) → j < suc n → Dec (j < n) → LegalCell rates distortions j
-          at j h (yes g) = l j g
-          at j h (no g) = let z : j ≡ n = omega arith in rw z (passed-legal rates distortions n e)
+  lowest-illegal-unique p q = lowest-in-run-unique (run-of-lowest p) (run-of-lowest q)
 
   -- a table has a lowest illegal cell, or all are legal
   pub lowest-or-all : ((k : ℕ) × LowestIllegal rates distortions k) ⊎ AllLegal rates distortions
-  lowest-or-all = of (up-to (length rates))
+  lowest-or-all = of (first-cells (length rates))
     where
-      of : LowestOf (length rates) ⊎ ((j : ℕ) → j < length rates → LegalCell rates distortions j) → ((k : ℕ) × LowestIllegal rates distortions k) ⊎ AllLegal rates distortions
-      of (inl f) = inl (f .0, record { inside = f .1; illegal = f .2; lowest = f .3 })
-      of (inr l) = inr l
+      of : ((k : ℕ) × LowestInRun rates distortions 0 (length rates) k) ⊎ LegalRun rates distortions 0 (length rates) → ((k : ℕ) × LowestIllegal rates distortions k) ⊎ AllLegal rates distortions
+      of (inl f) = inl (f .0, lowest-of-run (omega arith) (f .1))
+      of (inr l) = inr (all-of-run (omega arith) l)
 
   -- a table with an illegal cell is not all legal
   pub not-both : {k : ℕ} → LowestIllegal rates distortions k → AllLegal rates distortions → ⊥

@@ -1,15 +1,13 @@
-// The legality check: two walks, over the rates and then over the distortions.
+// The legality check: one walk over both tables together, cell by cell. Each cell of either table is read once, into a local, and judged once.
 use tables::limits::FORBIDDEN;
 use tables::limits::MOST_CELL;
 ghost use mathlib.Core.Path.{_≡_};
 ghost use mathlib.Core.Logic.{_↔_};
 ghost use mathlib.Core.Bool.{true};
-ghost use Prim.Native.Nat.{ℕ, _≤_, _<_};
-ghost use lib.ListN.{length, getD};
-ghost use lib.Dec.{eqb};
-ghost use Rattle.tables.specs.Limits.{forbidden};
+ghost use Prim.Native.Nat.{_+_, _<_, min};
+ghost use lib.ListN.{length};
 ghost use Rattle.tables.specs.Legal.{LegalRate, LegalBeside};
-ghost use Rattle.legal.specs.Judged.{Judged, «legality-refusal»};
+ghost use Rattle.legal.specs.Judged.{Judged, RunJudged, RunWithin, IfIllegal, «legality-refusal», «most-run»};
 
 pub enum Legality {
     Legal,
@@ -17,73 +15,90 @@ pub enum Legality {
     Illegal(usize),
 }
 
-// Is this choice forbidden?
-fn marked(rate: u32) -> bool
-    ensures { λ r. ⌜ r ≡ eqb rate forbidden ⌝ }
-{
-    rate == FORBIDDEN
-}
+// No cell, in the place of how far into its run a cell stands.
+const NONE: u32 = 4294967295;
 
-fn legal_rate(rate: u32) -> bool
-    ensures { λ r. ⌜ (r ≡ true) ↔ LegalRate rate ⌝ }
+// How many cells `judge` takes at a time: few enough that 32 bits tell them apart, and that a table with an illegal cell is soon left.
+const RUN: usize = 4096;
+
+// One cell: its rate, and the distortion beside it.
+fn legal(rate: u32, distortion: u32) -> bool
+    ensures { λ r. ⌜ (r ≡ true) ↔ (LegalRate rate × LegalBeside rate distortion) ⌝ }
 {
-    if rate <= MOST_CELL {
+    if rate == FORBIDDEN {
         return true;
     }
-    marked(rate)
-}
-
-fn legal_beside(rate: u32, distortion: u32) -> bool
-    ensures { λ r. ⌜ (r ≡ true) ↔ LegalBeside rate distortion ⌝ }
-{
-    if distortion <= MOST_CELL {
-        return true;
+    if MOST_CELL < rate {
+        return false;
     }
-    marked(rate)
+    distortion <= MOST_CELL
 }
 
-// The first walk: how many legal rates stand before the first illegal one.
-fn legal_rates(rates: &[u32]) -> usize
-    ensures within { λ r. ⌜ r ≤ length (now (rates .entry)) ⌝ }
-    ensures before { λ r. ⌜ ((k : ℕ) → k < r → LegalRate (getD (now (rates .entry)) k 0)) ⌝ }
-    ensures there { λ r. ⌜ (r < length (now (rates .entry)) → LegalRate (getD (now (rates .entry)) r 0) → ⊥) ⌝ }
+// How far into its run a cell stands, where it is illegal; otherwise NONE.
+fn if_illegal(rate: u32, distortion: u32, far: u32) -> u32
+    ensures { λ r. ⌜ IfIllegal rate distortion far r ⌝ }
 {
-    let mut i = 0;
-    while i < rates.len() {
-        if !legal_rate(rates[i]) {
-            return i;
-        }
-        i += 1;
+    if legal(rate, distortion) {
+        return NONE;
     }
-    i
+    far
 }
 
-// The second walk: how many of the first `end` distortions are legal before one is not.
-fn legal_distortions(rates: &[u32], distortions: &[u32], end: usize) -> usize
-    requires { ⌜ (end ≤ length (now rates)) × (end ≤ length (now distortions)) ⌝ }
-    ensures within { λ r. ⌜ r ≤ end ⌝ }
-    ensures before { λ r. ⌜ ((k : ℕ) → k < r → LegalBeside (getD (now (rates .entry)) k 0) (getD (now (distortions .entry)) k 0)) ⌝ }
-    ensures there { λ r. ⌜ (r < end → LegalBeside (getD (now (rates .entry)) r 0) (getD (now (distortions .entry)) r 0) → ⊥) ⌝ }
+fn lesser(x: u32, y: u32) -> u32
+    ensures { λ r. ⌜ r ≡ min x y ⌝ }
 {
-    let mut k = 0;
-    while k < end {
-        if !legal_beside(rates[k], distortions[k]) {
-            return k;
-        }
-        k += 1;
+    if x < y {
+        return x;
     }
-    k
+    y
 }
 
-// An illegal distortion counts before the first illegal rate alone, so the second walk goes no further than the first did.
+// The cells from one number up to another. Each is read, whatever those before it held: a loop that leaves at the first illegal cell asks a
+// branch of every cell, and that costs more than reading it.
+pub fn judge_run(rates: &[u32], distortions: &[u32], from: usize, to: usize) -> Legality
+    requires { ⌜ RunWithin (length (now rates)) (length (now distortions)) from to ⌝ }
+    ensures { λ r. ⌜ RunJudged (now (rates .entry)) (now (distortions .entry)) from to (legality-refusal r) ⌝ }
+{
+    let cells = to - from;
+    let mut lowest = NONE;
+    let mut far = 0;
+    while far < cells {
+        let k = from + far;
+        let rate = rates[k];
+        let distortion = distortions[k];
+        lowest = lesser(lowest, if_illegal(rate, distortion, far as u32));
+        far += 1;
+    }
+    if lowest == NONE {
+        return Legality::Legal;
+    }
+    Legality::Illegal(from + lowest as usize)
+}
+
+// Where the run that starts at cell `from` ends.
+fn run_end(from: usize, cells: usize) -> usize
+    requires { ⌜ from < cells ⌝ }
+    ensures { λ r. ⌜ r ≡ min (from + most-run) cells ⌝ }
+{
+    if RUN < cells - from {
+        return from + RUN;
+    }
+    cells
+}
+
+// All cells, run by run.
 pub fn judge(rates: &[u32], distortions: &[u32]) -> Legality
     requires { ⌜ length (now distortions) ≡ length (now rates) ⌝ }
     ensures { λ r. ⌜ Judged (now (rates .entry)) (now (distortions .entry)) (legality-refusal r) ⌝ }
 {
-    let end = legal_rates(rates);
-    let lowest = legal_distortions(rates, distortions, end);
-    if lowest < rates.len() {
-        return Legality::Illegal(lowest);
+    let mut from = 0;
+    while from < rates.len() {
+        let to = run_end(from, rates.len());
+        let verdict = judge_run(rates, distortions, from, to);
+        let Legality::Legal = verdict else {
+            return verdict;
+        };
+        from = to;
     }
     Legality::Legal
 }
