@@ -1,4 +1,5 @@
--- Legal cells: there is a lowest illegal one or all are legal, of a run of cells and of a table; and there is at most one. Assumes nothing.
+-- Legal cells: a run of cells with the next cell, and with the run behind it; a run has one answer; and a table has a lowest illegal cell, and
+-- only one, or all are legal. Assumes nothing.
 use mathlib.Core.Path.{_≡_, refl}
 use mathlib.Core.Logic.{_⊎_, inl, inr}
 use mathlib.Core.Bool.{Bool, true, false}

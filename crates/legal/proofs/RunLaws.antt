@@ -12,7 +12,8 @@ use Rattle.tables.specs.declared.refusal.Refusal.{Refusal}
 use Rattle.tables.specs.declared.refusal.Refusal.the-variants as refusal
 use Rattle.legal.specs.declared.Legality.{Legality}
 use Rattle.legal.specs.declared.Legality.the-variants.{Legal, Illegal}
-use Rattle.legal.specs.Judged.{Judged, all-legal, not-legal, LegalRun, LowestInRun, RunJudged, run-legal, run-illegal, no-cell, IfIllegal, legality-refusal}
+use Rattle.legal.specs.Judged.{Judged, all-legal, not-legal, LegalRun, LowestInRun, RunJudged, run-legal, run-illegal, legality-refusal}
+use Rattle.legal.specs.Parts.{no-cell, IfIllegal}
 use Rattle.legal.proofs.LegalLaws.{legal?, legal-more, lowest-next, lowest-more, legal-on, lowest-on, all-of-run, lowest-of-run}
 
 module _ (rates distortions : List ℕ) where

@@ -1,11 +1,10 @@
 -- What the legality check answers. Assumes nothing.
-use mathlib.Core.Path.{_≡_}
 use mathlib.Core.Option.{Option, none, some}
 use mathlib.Core.List.{List}
-use Prim.Native.Nat.{ℕ, _+_, _≤_, _<_}
+use Prim.Native.Nat.{ℕ, _≤_, _<_}
 use Rattle.tables.specs.declared.refusal.Refusal.{Refusal}
 use Rattle.tables.specs.declared.refusal.Refusal.the-variants as refusal
-use Rattle.tables.specs.Legal.{LegalRate, LegalBeside, LegalCell, AllLegal, LowestIllegal}
+use Rattle.tables.specs.Legal.{LegalCell, AllLegal, LowestIllegal}
 use Rattle.legal.specs.declared.Legality.{Legality}
 use Rattle.legal.specs.declared.Legality.the-variants.{Legal, Illegal}
 
@@ -34,23 +33,3 @@ pub record LowestInRun (rates distortions : List ℕ) (from to k : ℕ) : Type 0
 pub data RunJudged (rates distortions : List ℕ) (from to : ℕ) : Option Refusal → Type 0 where
   run-legal : LegalRun rates distortions from to → RunJudged rates distortions from to none
   run-illegal : {k : ℕ} → LowestInRun rates distortions from to k → RunJudged rates distortions from to (some (refusal.Cell k))
-
--- how many cells `judge` takes at a time
-abbrev pub most-run : ℕ
-most-run = 4096
-
--- "no cell", in the place of how far into its run a cell stands
-abbrev pub no-cell : ℕ
-no-cell = 4294967295
-
--- a run lies in both tables, and 32 bits tell its cells from each other and from "no cell"
-pub record RunWithin (rates distortions from to : ℕ) : Type 0 where
-  pub forward : from ≤ to
-  pub in-rates : to ≤ rates
-  pub in-distortions : to ≤ distortions
-  pub short : to ≤ from + no-cell
-
--- what is kept of one cell: how far into its run it stands where it is illegal, otherwise "no cell"
-pub record IfIllegal (rate distortion far r : ℕ) : Type 0 where
-  pub legal : LegalRate rate × LegalBeside rate distortion → r ≡ no-cell
-  pub illegal : (LegalRate rate × LegalBeside rate distortion → ⊥) → r ≡ far

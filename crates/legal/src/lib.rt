@@ -7,7 +7,8 @@ ghost use mathlib.Core.Bool.{true};
 ghost use Prim.Native.Nat.{_+_, _<_, min};
 ghost use lib.ListN.{length};
 ghost use Rattle.tables.specs.Legal.{LegalRate, LegalBeside};
-ghost use Rattle.legal.specs.Judged.{Judged, RunJudged, RunWithin, IfIllegal, «legality-refusal», «most-run»};
+ghost use Rattle.legal.specs.Judged.{Judged, RunJudged, «legality-refusal»};
+ghost use Rattle.legal.specs.Parts.{RunWithin, IfIllegal, «most-run»};
 
 pub enum Legality {
     Legal,
