@@ -15,10 +15,10 @@ typedef struct {
     size_t length;
 } lent;
 
-static uint8_t lent_pattern(size_t i, unsigned from) { return (uint8_t)((7 * (i % 251) + from) % 251 + 1); }
+static inline uint8_t lent_pattern(size_t i, unsigned from) { return (uint8_t)((7 * (i % 251) + from) % 251 + 1); }
 
 /* A buffer of no bytes is lent as a null pointer. */
-static lent lend(size_t length, unsigned from) {
+static inline lent lend(size_t length, unsigned from) {
     lent l;
     size_t i;
     l.whole = (uint8_t *)malloc(length + 2 * GUARD);
@@ -31,14 +31,14 @@ static lent lend(size_t length, unsigned from) {
 }
 
 /* 0 where a guard byte was written. */
-static int lent_guarded(const lent *l) {
+static inline int lent_guarded(const lent *l) {
     size_t i;
     for (i = 0; i < GUARD; i++)
         if (l->whole[i] != 0xa5 || l->whole[GUARD + l->length + i] != 0xa5) return 0;
     return 1;
 }
 
-static void give_back(lent *l) {
+static inline void give_back(lent *l) {
     free(l->whole);
     l->whole = l->bytes = NULL;
 }
@@ -57,10 +57,10 @@ typedef struct {
 #define RATES_FROM 2000000000u
 #define DISTORTIONS_FROM 3000000000u
 
-static uint32_t lent_cell(size_t i, uint32_t from) { return from + (uint32_t)i; }
+static inline uint32_t lent_cell(size_t i, uint32_t from) { return from + (uint32_t)i; }
 
 /* A table of no cells is lent as a null pointer. */
-static lent_table lend_table(size_t length, uint32_t from) {
+static inline lent_table lend_table(size_t length, uint32_t from) {
     lent_table l;
     size_t i;
     l.whole = (uint32_t *)malloc((length + 2 * GUARD_CELLS) * sizeof *l.whole);
@@ -73,14 +73,14 @@ static lent_table lend_table(size_t length, uint32_t from) {
 }
 
 /* 0 where a guard cell was written. */
-static int table_guarded(const lent_table *l) {
+static inline int table_guarded(const lent_table *l) {
     size_t i;
     for (i = 0; i < GUARD_CELLS; i++)
         if (l->whole[i] != GUARD_CELL || l->whole[GUARD_CELLS + l->length + i] != GUARD_CELL) return 0;
     return 1;
 }
 
-static void give_table_back(lent_table *l) {
+static inline void give_table_back(lent_table *l) {
     free(l->whole);
     l->whole = l->cells = NULL;
 }

@@ -3,13 +3,14 @@
  * the seventh on) is not. Each must be within QPL_STACK.
  *
  * The calls run on the largest tables, on small ones, on refusals, and on n and d that are consecutive Fibonacci numbers, on which the
- * remainder rule of Euclid goes deepest: two functions of the library call themselves by it. Import and export run on the longest list, on
- * short ones, and on refusals.
+ * remainder rule of Euclid goes deepest: two functions of the library call themselves by it. Files are read in both versions. Import and
+ * export run on the longest list, on short ones, and on refusals.
  *
  * So that the measurement is not fooled: a byte that is written with the paint's own value shows under a second paint; a function that takes
  * no stack, and one that fills a known room of it, must come out so; and each call must give back what it should, and an import must leave
  * the tables that were exported, so that it did its work. What a frame reserves and does not touch is not seen here. */
 #include "qpl.h"
+#include "seal.h"
 
 #include <stdio.h>
 #include <string.h>
@@ -22,6 +23,8 @@
 #define ARGUMENTS 15
 #define ROOM 4000
 #define SCANS 1024
+/* Of a plan file, as the writer takes them; the reader answers the version behind them. */
+#define FIELDS 11
 #define CELLS (16 + 1023 * 256)
 /* The two greatest Fibonacci numbers that a multiplier can have. */
 #define FIBONACCI 701408733
@@ -189,11 +192,35 @@ static void run_slope(uint32_t n, uint32_t d) {
     expect("the slope is n/d", qpl_value(answer, QPL_AVERAGE_N) == n && qpl_value(answer, QPL_AVERAGE_D) == d);
 }
 
+/* Reads the file, which has these fields and is of this version; then refused: an answer that is short, a length that no file has, a
+ * changed byte of block 1. */
+static void run_reads(uint64_t length, const uint64_t *fields, uint64_t version) {
+    uint64_t reading[ARGUMENTS] = {0};
+    size_t k;
+    int good = 1;
+    reading[0] = AT(file), reading[1] = length, reading[2] = AT(plan), reading[3] = fields[QPL_READ_SCANS];
+    reading[4] = AT(answer), reading[5] = sizeof answer;
+    memset(answer, 0, sizeof answer), memset(plan, 255, sizeof plan);
+    run(CALL_READ, reading, 0);
+    for (k = 0; k < FIELDS; k++) good = good && qpl_value(answer, k) == fields[k];
+    for (k = 0; k < fields[QPL_READ_SCANS]; k++) good = good && plan[k] == k % 16;
+    expect("a file reads back as it was written", good);
+    expect("a file reads back in its version", qpl_value(answer, QPL_READ_VERSION) == version);
+    reading[5] = sizeof answer - 1;
+    run(CALL_READ, reading, 6);
+    reading[1] = length - 1;
+    run(CALL_READ, reading, 11);
+    reading[1] = length;
+    file[700]++;
+    run(CALL_READ, reading, 12 | UINT64_C(1) << 32);
+    file[700]--;
+}
+
 /* The settings go up by one and from 15 to 0, which law 0 and law 2 allow. */
 static void run_files(uint64_t scans, uint64_t law, uint64_t kind, uint64_t n, uint64_t d) {
     uint64_t length = scans > 1008 ? 1536 : 1024, k;
-    uint64_t writing[ARGUMENTS] = {0}, reading[ARGUMENTS] = {0};
-    uint64_t fields[11] = {0};
+    uint64_t writing[ARGUMENTS] = {0};
+    uint64_t fields[FIELDS] = {0};
     /* the writer takes its fields in the order in which the reader answers them */
     fields[QPL_READ_SCANS] = scans, fields[QPL_READ_SETTINGS] = 16, fields[QPL_READ_LAW] = law, fields[QPL_READ_KIND] = kind;
     fields[QPL_READ_BUDGET] = UINT64_MAX, fields[QPL_READ_N] = n, fields[QPL_READ_D] = d;
@@ -203,17 +230,10 @@ static void run_files(uint64_t scans, uint64_t law, uint64_t kind, uint64_t n, u
     memcpy(writing, fields, sizeof fields);
     writing[11] = AT(plan), writing[12] = scans, writing[13] = AT(file), writing[14] = length;
     run(CALL_WRITE, writing, 0);
-    reading[0] = AT(file), reading[1] = length, reading[2] = AT(plan), reading[3] = scans;
-    reading[4] = AT(answer), reading[5] = sizeof answer;
-    run(CALL_READ, reading, 0);
-    for (k = 0; k < 11; k++)
-        if (qpl_value(answer, (size_t)k) != fields[k]) expect("a file reads back as it was written", 0);
-    /* refused: a length that no file has, a changed byte of block 1, a peak over its limit, a setting that is none */
-    reading[1] = length - 1;
-    run(CALL_READ, reading, 11);
-    reading[1] = length;
-    file[700]++;
-    run(CALL_READ, reading, 12 | UINT64_C(1) << 32);
+    run_reads(length, fields, QPL_VERSION_2);
+    seal_as(file, (size_t)length, 1);
+    run_reads(length, fields, QPL_VERSION_1);
+    /* refused: a peak over its limit, a setting that is none */
     writing[QPL_READ_PEAK] = 1048576;
     run(CALL_WRITE, writing, 13 | UINT64_C(40) << 32);
     writing[QPL_READ_PEAK] = 0;

@@ -1,11 +1,13 @@
 /* The worked tables of document 01 ("Bench tables", the "Others" too) and its room figures, lists of table T by the rules of document 02,
- * [1], table V, of which each law has another plan, by those of [2], and illegal cells at every place of a table, of which the walk of [3]
- * must lose none, through the archive: of planning calls every value, every byte of every buffer, and guard bytes on both sides of each; of
- * files the fields, the settings, the letters, the first packed byte, and guard bytes; of lists every cell and byte, and guards; of illegal
- * cells what goes back, and that a refusal leaves every buffer as it was. What is expected is written out by hand: of document 01 its own
- * figures, of the others what the rules give. */
+ * [1], table V, of which each law has another plan, by those of [2], illegal cells at every place of a table, of which the walk of [3] must
+ * lose none, and plan files of both versions by the rules of [4], through the archive: of planning calls every value, every byte of every
+ * buffer, and guard bytes on both sides of each; of T's files every value and every byte, the checks as numbers, and guard bytes; of lists
+ * every cell and byte, and guards; of illegal cells what goes back, and that a refusal leaves every buffer as it was. What is expected is
+ * written out by hand: of document 01 its own figures, of the others what the rules give. Some files that are changed here (V's, those with
+ * other block numbers, and long ones) the library has written first. */
 #include "lent.h"
 #include "qpl.h"
+#include "seal.h"
 
 #include <stdio.h>
 #include <string.h>
@@ -291,7 +293,7 @@ static int room_refused(uint64_t channels, uint64_t scans, uint64_t settings, si
 static void named(void) {
     uint8_t plan[2] = {0}, scratch[4] = {0}, answer[QPL_AVERAGE_ANSWER] = {0};
     expect("the names end where the answers do",
-           8 * (QPL_ROOM_SCRATCH + 1) == QPL_ROOM_ANSWER && 8 * (QPL_READ_FLOOR + 1) == QPL_READ_ANSWER &&
+           8 * (QPL_ROOM_SCRATCH + 1) == QPL_ROOM_ANSWER && 8 * (QPL_READ_VERSION + 1) == QPL_READ_ANSWER &&
                8 * (QPL_CEILING_PEAK + 1) == QPL_CEILING_ANSWER && 8 * (QPL_MULTIPLIER_PEAK + 1) == QPL_MULTIPLIER_ANSWER &&
                8 * (QPL_MINMAX_PEAK + 1) == QPL_MINMAX_ANSWER && 8 * (QPL_AVERAGE_FLOOR + 1) == QPL_AVERAGE_ANSWER &&
                8 * (QPL_EXPORT_LENGTH + 1) == QPL_EXPORT_ANSWER);
@@ -313,16 +315,16 @@ static void named(void) {
 /* T's average plan for 17 to a file and back, with buffers of exactly the needed size; and a changed byte. */
 static void files(void) {
     static const uint8_t settings[] = {0, 1};
-    static const uint64_t fields[] = {2, 2, 0, 0, 17, 3, 5, 13, 8, 6, 6};
+    static const uint64_t fields[] = {2, 2, 0, 0, 17, 3, 5, 13, 8, 6, 6, QPL_VERSION_2};
     lent file = lend(1024, 13), plan = lend(2, 13), answer = lend(QPL_READ_ANSWER, 50);
     int k, good = 1;
     expect("T, average 17: written",
            qpl_write(2, 2, 0, QPL_KIND_AVERAGE, 17, 3, 5, 13, 8, 6, 6, settings, 2, file.bytes, file.length) == 0 && lent_guarded(&file) &&
-               memcmp(file.bytes + 4, "QPL1", 4) == 0 && file.bytes[516] == 0x10);
+               memcmp(file.bytes + 4, "QPL2", 4) == 0 && file.bytes[516] == 0x10);
     expect("T, average 17: read", qpl_read(file.bytes, file.length, plan.bytes, plan.length, answer.bytes, answer.length) == 0 &&
                                       holds(&plan, 2, settings, 13) && lent_guarded(&answer));
-    for (k = 0; k < 11; k++) good = good && qpl_value(answer.bytes, (size_t)k) == fields[k];
-    expect("T, average 17: the fields that were written", good);
+    for (k = 0; k < 12; k++) good = good && qpl_value(answer.bytes, (size_t)k) == fields[k];
+    expect("T, average 17: the fields that were written, and the version", good);
     give_back(&plan);
     give_back(&answer);
     plan = lend(2, 13);
@@ -334,8 +336,8 @@ static void files(void) {
     file.bytes[600]--;
     expect("a plan buffer of one byte: refused 6",
            qpl_read(file.bytes, file.length, plan.bytes, 1, answer.bytes, answer.length) == 6 && holds(&plan, 0, NULL, 13));
-    expect("an answer buffer of 87 bytes: refused 6",
-           qpl_read(file.bytes, file.length, plan.bytes, plan.length, answer.bytes, 87) == 6 && holds(&plan, 0, NULL, 13));
+    expect("an answer buffer of 95 bytes: refused 6",
+           qpl_read(file.bytes, file.length, plan.bytes, plan.length, answer.bytes, 95) == 6 && holds(&plan, 0, NULL, 13));
     expect("no file: refused 11", qpl_read(NULL, 0, plan.bytes, plan.length, answer.bytes, answer.length) == 11);
     give_back(&file);
     file = lend(1024, 13);
@@ -350,40 +352,259 @@ static void files(void) {
     give_back(&answer);
 }
 
-/* A byte of block 0 changed, and the check of the block made right again. */
-static void put(uint8_t *file, size_t at, uint8_t byte) {
-    uint32_t sum = 0;
-    size_t k;
-    file[at] = byte;
-    for (k = 0; k < 508; k++) sum += file[k];
-    for (k = 0; k < 4; k++) file[508 + k] = (uint8_t)(sum >> 8 * k);
+/* A file of T's average plan for 17, or of the same fields with more scans, by hand: its letters, law and scans, the first two bytes of
+ * settings, and the checks of both blocks. What a read of it must give back, and on 0 the settings. */
+typedef struct {
+    const char *what, *letters;
+    uint8_t law, scans, packed[2];
+    uint32_t checks[2];
+    uint64_t right;
+    uint8_t plan[4];
+} expected_file;
+
+#define TWELVE(block) (12 | (uint64_t)(block) << 32)
+#define LETTERS (13 | UINT64_C(4) << 32)
+static const expected_file by_hand[] = {
+    {"T as QPL2, law 1", "QPL2", 1, 2, {0x10, 0}, {174532, 8573}, 0, {0, 1}},
+    {"T as QPL2, law 0", "QPL2", 0, 2, {0x10, 0}, {174035, 8573}, 0, {0, 1}},
+    {"T as QPL2, law 2", "QPL2", 2, 2, {0x10, 0}, {175029, 8573}, 0, {0, 1}},
+    {"T as QPL1, law 1", "QPL1", 1, 2, {0x10, 0}, {349, 17}, 0, {0, 1}},
+    {"T as QPL1, law 0", "QPL1", 0, 2, {0x10, 0}, {348, 17}, 0, {0, 1}},
+    {"T as QPL1, law 2", "QPL1", 2, 2, {0x10, 0}, {350, 17}, 0, {0, 1}},
+    {"four scans as QPL1", "QPL1", 1, 4, {0x10, 0x11}, {351, 34}, 0, {0, 1, 1, 1}},
+    {"four scans as QPL1, two bytes exchanged: read as good", "QPL1", 1, 4, {0x11, 0x10}, {351, 34}, 0, {1, 1, 0, 1}},
+    {"four scans as QPL2", "QPL2", 1, 4, {0x10, 0x11}, {175532, 17124}, 0, {0, 1, 1, 1}},
+    {"four scans as QPL2, two bytes exchanged: refused 12, at 1", "QPL2", 1, 4, {0x11, 0x10}, {175532, 17124}, TWELVE(1), {0}},
+    {"four scans as QPL2, two bytes exchanged before the check is made", "QPL2", 1, 4, {0x11, 0x10}, {175532, 17125}, 0, {1, 1, 0, 1}},
+    {"T as QPL2, its letters changed to QPL1: refused 12, at 0", "QPL1", 1, 2, {0x10, 0}, {174532, 8573}, TWELVE(0), {0}},
+    {"T as QPL2, its letters changed to QPL3: refused 12, at 0", "QPL3", 1, 2, {0x10, 0}, {174532, 8573}, TWELVE(0), {0}},
+    {"T as QPL1, its letters changed to QPL2: refused 12, at 0", "QPL2", 1, 2, {0x10, 0}, {349, 17}, TWELVE(0), {0}},
+    {"QPL3 with the old checks: refused 13, at 4", "QPL3", 1, 2, {0x10, 0}, {351, 17}, LETTERS, {0}},
+    {"QPL3 with the new check in block 0: refused 12, at 0", "QPL3", 1, 2, {0x10, 0}, {175033, 17}, TWELVE(0), {0}},
+    {"QPL3 with the new check in block 1: refused 12, at 1", "QPL3", 1, 2, {0x10, 0}, {351, 8573}, TWELVE(1), {0}},
+    {"QPL3 with the new checks: refused 12, at 0", "QPL3", 1, 2, {0x10, 0}, {175033, 8573}, TWELVE(0), {0}},
+    {"QPL3 and law 3, with the old checks: refused 13, at 4", "QPL3", 3, 2, {0x10, 0}, {353, 17}, LETTERS, {0}},
+    {"QPL2 with the old checks: refused 12, at 0", "QPL2", 1, 2, {0x10, 0}, {350, 17}, TWELVE(0), {0}},
+    {"QPL2 with the old check in block 0: refused 12, at 0", "QPL2", 1, 2, {0x10, 0}, {350, 8573}, TWELVE(0), {0}},
+    {"QPL2 with the old check in block 1: refused 12, at 1", "QPL2", 1, 2, {0x10, 0}, {174532, 17}, TWELVE(1), {0}},
+    {"QPL1 with the new checks: refused 12, at 0", "QPL1", 1, 2, {0x10, 0}, {174031, 8573}, TWELVE(0), {0}},
+    {"QPL1 with the new check in block 0: refused 12, at 0", "QPL1", 1, 2, {0x10, 0}, {174031, 17}, TWELVE(0), {0}},
+    {"QPL1 with the new check in block 1: refused 12, at 1", "QPL1", 1, 2, {0x10, 0}, {349, 8573}, TWELVE(1), {0}},
+    {"QPL2 without the 1 of the check in block 0", "QPL2", 1, 2, {0x10, 0}, {174531, 8573}, TWELVE(0), {0}},
+    {"QPL2 without the 1 of the check in block 1", "QPL2", 1, 2, {0x10, 0}, {174532, 8572}, TWELVE(1), {0}},
+    {"QPL2, a check of which 16 bits are right", "QPL2", 1, 2, {0x10, 0}, {174532 - 131072, 8573}, TWELVE(0), {0}},
+    {"QPL2, a check of which 24 bits are right", "QPL2", 1, 2, {0x10, 0}, {174532, 8573 + 16777216}, TWELVE(1), {0}},
+    {"QPL1, a check of which 24 bits are right", "QPL1", 1, 2, {0x10, 0}, {349 + 16777216, 17}, TWELVE(0), {0}},
+};
+
+static void make(const expected_file *e, uint8_t *file) {
+    memset(file, 0, 2 * BLOCK);
+    memcpy(file + 4, e->letters, 4);
+    file[8] = e->scans, file[10] = 2, file[11] = e->law, file[16] = 17, file[24] = 3, file[28] = 5;
+    file[32] = 13, file[36] = 8, file[40] = 6, file[44] = 6;
+    file[BLOCK] = 1, file[BLOCK + 4] = e->packed[0], file[BLOCK + 5] = e->packed[1];
+    put_check(file, e->checks[0]), put_check(file + BLOCK, e->checks[1]);
 }
 
-/* A minmax plan of V under a law, written and read: what both must give back. What is read, and what a write that is not refused must
- * write, is the plan's file under law 0, which any two settings keep, with the law changed. */
+/* Where there is no room, what is right otherwise is refused with 6; what is not keeps its refusal. */
+static int reads(const expected_file *e, size_t plan_length, size_t answer_length) {
+    uint64_t fields[12] = {0, 2, 0, QPL_KIND_AVERAGE, 17, 3, 5, 13, 8, 6, 6, 0};
+    uint64_t right = e->right == 0 && (plan_length < e->scans || answer_length < QPL_READ_ANSWER) ? 6 : e->right;
+    uint8_t file[2 * BLOCK], values[QPL_READ_ANSWER];
+    lent plan = lend(plan_length, 13), answer = lend(answer_length, 50);
+    size_t k;
+    int good;
+    fields[QPL_READ_SCANS] = e->scans, fields[QPL_READ_LAW] = e->law;
+    fields[QPL_READ_VERSION] = e->letters[3] == '2' ? QPL_VERSION_2 : QPL_VERSION_1;
+    for (k = 0; k < sizeof values; k++) values[k] = (uint8_t)(fields[k / 8] >> 8 * (k % 8));
+    make(e, file);
+    good = qpl_read(file, sizeof file, plan.bytes, plan.length, answer.bytes, answer.length) == right;
+    good = good && holds(&plan, right == 0 ? e->scans : 0, e->plan, 13) && holds(&answer, right == 0 ? sizeof values : 0, values, 50);
+    give_back(&plan);
+    give_back(&answer);
+    return good;
+}
+
+/* What is written is the file by hand, to the byte, in a buffer that is longer by `more` bytes. */
+static int writes(const expected_file *e, size_t more) {
+    uint8_t file[2 * BLOCK];
+    lent written = lend(sizeof file + more, 13);
+    int good = qpl_write(e->scans, 2, e->law, QPL_KIND_AVERAGE, 17, 3, 5, 13, 8, 6, 6, e->plan, e->scans, written.bytes,
+                         written.length) == 0;
+    make(e, file);
+    good = good && holds(&written, sizeof file, file, 13);
+    give_back(&written);
+    return good;
+}
+
+/* What the tests make right again (seal.h) is what is right by hand. */
+static int sealed(const expected_file *e) {
+    uint8_t file[2 * BLOCK], again[2 * BLOCK];
+    make(e, file);
+    memcpy(again, file, sizeof again);
+    seal(again, sizeof again);
+    return memcmp(file, again, sizeof file) == 0;
+}
+
+/* T's file with every other byte at every place of its letters, under the old checks and under the new: none of these letters takes the new,
+ * and but for QPL1 none is taken under the old. */
+static int all_letters(void) {
+    lent plan = lend(2, 13), answer = lend(QPL_READ_ANSWER, 50);
+    uint8_t file[2 * BLOCK];
+    int at, by, good = 1;
+    make(&by_hand[0], file);
+    for (at = 4; at < 8; at++)
+        for (by = 1; by < 256; by++) {
+            uint8_t right = file[at];
+            file[at] = (uint8_t)(right + by);
+            put_check(file, new_check(file)), put_check(file + BLOCK, new_check(file + BLOCK));
+            good = good && qpl_read(file, sizeof file, plan.bytes, 2, answer.bytes, answer.length) == TWELVE(0);
+            put_check(file, old_check(file)), put_check(file + BLOCK, old_check(file + BLOCK));
+            /* QPL1 is good under the old, and is read elsewhere */
+            if (memcmp(file + 4, "QPL1", 4) != 0)
+                good = good && qpl_read(file, sizeof file, plan.bytes, 2, answer.bytes, answer.length) == LETTERS;
+            file[at] = right;
+        }
+    good = good && holds(&plan, 0, NULL, 13) && holds(&answer, 0, NULL, 50);
+    give_back(&plan);
+    give_back(&answer);
+    return good;
+}
+
+/* So many scans of 16 settings under law 0: written, with these checks in the blocks behind block 0, read as both versions. */
+static int both_read(uint64_t scans, const uint8_t *settings, const uint32_t *checks) {
+    size_t length = scans > 1008 ? 3 * BLOCK : 2 * BLOCK, at;
+    lent file = lend(length, 13);
+    int version, good = qpl_write(scans, 16, 0, QPL_KIND_MINMAX, 7, 0, 0, 7, 4, 3, 0, settings, (size_t)scans, file.bytes, length) == 0;
+    good = good && lent_guarded(&file);
+    for (at = BLOCK; at < length; at += BLOCK) {
+        uint8_t block[BLOCK];
+        memcpy(block, file.bytes + at, BLOCK);
+        put_check(block, checks[at / BLOCK - 1]);
+        good = good && memcmp(block, file.bytes + at, BLOCK) == 0;
+    }
+    for (version = 2; version >= 1; version--) {
+        lent plan = lend((size_t)scans + 3, 13), answer = lend(QPL_READ_ANSWER, 50);
+        if (version == 1) seal_as(file.bytes, length, 1);
+        good = good && qpl_read(file.bytes, length, plan.bytes, plan.length, answer.bytes, answer.length) == 0;
+        good = good && holds(&plan, (size_t)scans, settings, 13) && qpl_value(answer.bytes, QPL_READ_VERSION) == (uint64_t)version;
+        give_back(&plan);
+        give_back(&answer);
+    }
+    give_back(&file);
+    return good;
+}
+
+/* Every other number of each block of the file of these settings, as far as one byte of it goes, with checks that are right: 12 at that
+ * block in both versions. The check shows a changed number, but not a block with another number from the start. */
+static int all_numbers(const uint8_t *settings) {
+    lent file = lend(3 * BLOCK, 13), plan = lend(1024, 13), answer = lend(QPL_READ_ANSWER, 50);
+    int version, by, good = qpl_write(1024, 16, 0, QPL_KIND_MINMAX, 7, 0, 0, 7, 4, 3, 0, settings, 1024, file.bytes, file.length) == 0;
+    size_t at;
+    for (version = 1; version <= 2; version++)
+        for (at = 0; at < file.length; at += at % BLOCK == 3 ? BLOCK - 3 : 1)
+            for (by = 1; by < 256; by++) {
+                uint8_t right = file.bytes[at];
+                file.bytes[at] = (uint8_t)(right + by);
+                seal_as(file.bytes, file.length, version);
+                good = good && qpl_read(file.bytes, file.length, plan.bytes, 1024, answer.bytes, answer.length) == TWELVE(at / BLOCK);
+                file.bytes[at] = right;
+            }
+    good = good && holds(&plan, 0, NULL, 13) && holds(&answer, 0, NULL, 50);
+    give_back(&file);
+    give_back(&plan);
+    give_back(&answer);
+    return good;
+}
+
+/* The first bytes of a file, in memory of their own that ends where they do: 11 where no file is so long, before any letter is read. */
+static int other_lengths(const expected_file *e) {
+    static const size_t lengths[] = {0, 1, 3, 4, 5, 6, 7, 8, 507, 508, 511, 512, 513, 1023, 1025, 1535, 1537, 2048};
+    lent plan = lend(e->scans, 13), answer = lend(QPL_READ_ANSWER, 50);
+    uint8_t whole[4 * BLOCK] = {0};
+    size_t k;
+    int good = 1;
+    make(e, whole);
+    for (k = 0; k < sizeof lengths / sizeof lengths[0]; k++) {
+        uint8_t *file = (uint8_t *)malloc(lengths[k] + 1);
+        if (file == NULL) exit(2);
+        /* the byte more is in front, so that there is memory for no bytes too */
+        memcpy(file + 1, whole, lengths[k]);
+        good = good && qpl_read(file + 1, lengths[k], plan.bytes, plan.length, answer.bytes, answer.length) == 11;
+        free(file);
+    }
+    good = good && holds(&plan, 0, NULL, 13) && holds(&answer, 0, NULL, 50);
+    give_back(&plan);
+    give_back(&answer);
+    return good;
+}
+
+/* Plan files of both versions. */
+static void versions(void) {
+    /* in a data block these settings are the letters QPL1 and QPL2, which choose nothing there */
+    static const uint8_t one[] = {1, 5, 0, 5, 12, 4, 1, 3}, two[] = {1, 5, 0, 5, 12, 4, 2, 3};
+    static const uint32_t one_check[] = {144274}, two_check[] = {144775}, full_checks[] = {32451809, 1022037};
+    uint8_t full[1024];
+    size_t k;
+    for (k = 0; k < sizeof by_hand / sizeof by_hand[0]; k++) {
+        const expected_file *e = &by_hand[k];
+        expect(e->what, reads(e, e->scans, QPL_READ_ANSWER));
+        expect(e->what, reads(e, e->scans + 7, QPL_READ_ANSWER + 9));
+        expect(e->what, reads(e, 0, 0) && reads(e, e->scans - 1, QPL_READ_ANSWER) && reads(e, e->scans, QPL_READ_ANSWER - 1));
+        if (e->right == 0) expect(e->what, sealed(e) && other_lengths(e));
+        if (e->right == 0 && e->letters[3] == '2') expect(e->what, writes(e, 0) && writes(e, 17));
+    }
+    expect("all changes of a letter", all_letters());
+    expect("letters among the settings", both_read(8, one, one_check) && both_read(8, two, two_check));
+    memset(full, 15, sizeof full);
+    expect("checks of over 24 bits, in two blocks and in three", both_read(1008, full, full_checks) && both_read(1024, full, full_checks));
+    expect("other block numbers", all_numbers(full));
+}
+
+/* A byte of block 0 changed, and the checks made right again. */
+static void put(lent *file, size_t at, uint8_t byte) {
+    file->bytes[at] = byte;
+    seal(file->bytes, file->length);
+}
+
+/* A read of a plan of two scans, in either version of its file: what it must give back, and on 0 the settings and the law. */
+static int read_in_both(lent *file, const uint8_t *settings, uint64_t law, uint64_t right) {
+    int version, good = 1;
+    for (version = 1; version <= 2; version++) {
+        lent plan = lend(2, 13), answer = lend(QPL_READ_ANSWER, 50);
+        seal_as(file->bytes, file->length, version);
+        good = good && qpl_read(file->bytes, file->length, plan.bytes, plan.length, answer.bytes, answer.length) == right;
+        good = good && holds(&plan, right == 0 ? 2 : 0, settings, 13);
+        good = good && (right != 0 ? holds(&answer, 0, NULL, 50)
+                                   : lent_guarded(&answer) && qpl_value(answer.bytes, QPL_READ_LAW) == law &&
+                                         qpl_value(answer.bytes, QPL_READ_VERSION) == (uint64_t)version);
+        give_back(&plan);
+        give_back(&answer);
+    }
+    return good;
+}
+
+/* A minmax plan of V under a law, written, and read in both versions: what all must give back. What is read, and what a write that is not
+ * refused must write, is the plan's file under law 0, which any two settings keep, with the law changed. */
 static int filed(uint64_t law, uint8_t first, uint8_t second, uint64_t rate, uint64_t right) {
     uint8_t settings[2];
-    lent file = lend(1024, 13), written = lend(1024, 13), plan = lend(2, 13), answer = lend(QPL_READ_ANSWER, 50);
+    lent file = lend(1024, 13), written = lend(1024, 13);
     int good;
     settings[0] = first, settings[1] = second;
     good = qpl_write(2, 4, 0, QPL_KIND_MINMAX, 7, 0, 0, rate, 4, 3, 0, settings, 2, file.bytes, file.length) == 0 && lent_guarded(&file);
-    put(file.bytes, 11, (uint8_t)law);
+    put(&file, 11, (uint8_t)law);
     good = good && qpl_write(2, 4, law, QPL_KIND_MINMAX, 7, 0, 0, rate, 4, 3, 0, settings, 2, written.bytes, written.length) == right;
     good = good && holds(&written, right == 0 ? 1024 : 0, file.bytes, 13);
-    good = good && qpl_read(file.bytes, file.length, plan.bytes, plan.length, answer.bytes, answer.length) == right;
-    good = good && holds(&plan, right == 0 ? 2 : 0, settings, 13);
-    good = good && (right == 0 ? lent_guarded(&answer) && qpl_value(answer.bytes, QPL_READ_LAW) == law : holds(&answer, 0, NULL, 50));
+    good = good && read_in_both(&file, settings, law, right);
     give_back(&file);
     give_back(&written);
-    give_back(&plan);
-    give_back(&answer);
     return good;
 }
 
 static void laws(void) {
     static const uint8_t settings[] = {3, 0};
     const uint64_t at_1 = 14 | UINT64_C(1) << 32, at_law = 13 | UINT64_C(11) << 32, at_kind = 13 | UINT64_C(12) << 32;
-    lent file = lend(1024, 13), plan = lend(2, 13), answer = lend(QPL_READ_ANSWER, 50);
+    lent file = lend(1024, 13);
     expect("law 0 allows 16 sequences", allowed_by(0, "yyyy" "yyyy" "yyyy" "yyyy") == 16);
     expect("law 1 allows 14 sequences, not 0 3 and 3 0", allowed_by(1, "yyyn" "yyyy" "yyyy" "nyyy") == 14);
     expect("law 2 allows 15 sequences, not 0 3", allowed_by(2, "yyyn" "yyyy" "yyyy" "yyyy") == 15);
@@ -402,13 +623,9 @@ static void laws(void) {
                                              holds(&file, 0, NULL, 13));
     expect("law 2, kind 1: written",
            qpl_write(2, 4, 2, QPL_KIND_MINMAX, 7, 0, 0, 7, 4, 3, 0, settings, 2, file.bytes, file.length) == 0 && lent_guarded(&file));
-    put(file.bytes, 12, 2);
-    expect("law 2, kind 2: refused 13, at 12",
-           qpl_read(file.bytes, file.length, plan.bytes, plan.length, answer.bytes, answer.length) == at_kind &&
-               holds(&plan, 0, NULL, 13) && holds(&answer, 0, NULL, 50));
+    put(&file, 12, 2);
+    expect("law 2, kind 2: refused 13, at 12", read_in_both(&file, settings, 2, at_kind));
     give_back(&file);
-    give_back(&plan);
-    give_back(&answer);
 }
 
 /* A list for 2 scans and 2 settings (NULL: no bytes, lent as a null pointer), what its import must give back, and on 0 the six cells of each
@@ -547,6 +764,7 @@ int main(void) {
     expect("an answer buffer of 23 bytes", room_refused(1, 1, 1, 23, 6) && room_refused(1, 1, 1, 0, 6) && room_refused(1, 1, 0, 23, 2));
     named();
     files();
+    versions();
     laws();
     illegal_cells();
     import_export();

@@ -60,7 +60,7 @@ extern "C" {
 
 /* The lengths of the answers, in bytes. */
 #define QPL_ROOM_ANSWER 24
-#define QPL_READ_ANSWER 88
+#define QPL_READ_ANSWER 96 /* 88 before there were versions: a host that lends 88 gets 6 */
 #define QPL_CEILING_ANSWER 24
 #define QPL_MULTIPLIER_ANSWER 24
 #define QPL_MINMAX_ANSWER 32
@@ -93,7 +93,8 @@ enum {
     QPL_READ_RATE,
     QPL_READ_DISTORTION,
     QPL_READ_PEAK,
-    QPL_READ_FLOOR
+    QPL_READ_FLOOR,
+    QPL_READ_VERSION
 };
 enum { QPL_CEILING_RATE, QPL_CEILING_DISTORTION, QPL_CEILING_PEAK };
 enum { QPL_MULTIPLIER_RATE, QPL_MULTIPLIER_DISTORTION, QPL_MULTIPLIER_PEAK };
@@ -103,6 +104,9 @@ enum { QPL_EXPORT_LENGTH };
 
 /* The kinds of a plan file: what an average call answers, and what a minmax call does. */
 enum { QPL_KIND_AVERAGE = 0, QPL_KIND_MINMAX = 1 };
+
+/* The versions of a plan file: which letters it has, QPL1 or QPL2. */
+enum { QPL_VERSION_1 = 1, QPL_VERSION_2 = 2 };
 
 /* A rate that means "this choice is forbidden". */
 #define QPL_FORBIDDEN 4294967295u
@@ -125,9 +129,12 @@ static inline uint64_t qpl_value(const uint8_t *answer, size_t k) {
  * Refusals, the first that applies: 10, 1, 2, 6 (answer under 24 bytes). Only the first 24 bytes of answer may change, and on 0 alone. */
 uint64_t qpl_room(uint64_t channels, uint64_t scans, uint64_t settings, uint8_t *answer, size_t answer_length);
 
-/* Plan files: blocks of 512 bytes, the fields in block 0, the settings two to a byte behind it. 13 carries the byte of the first field that
- * breaks its rule, in this order:
- *    4  letters          QPL1
+/* Plan files: blocks of 512 bytes, the fields in block 0, the settings two to a byte behind it, and at the end of each block a check of its
+ * 508 bytes before. The letters, bytes 4 to 7 of block 0, choose the check of all blocks: QPL2 takes 1 plus the sum of (508 - k) times byte k
+ * of the block, for k from 0 to 507; any other letters take the sum of the bytes. Under QPL2 one byte changed among a block's 508, or two
+ * unequal ones exchanged, is refused with 12 and that block. Both versions are read; QPL2 is written. docs/FILES.md has the format byte by
+ * byte. 13 carries the byte of the first field that breaks its rule, in this order:
+ *    4  letters          QPL1 or QPL2
  *    8  scans            1 to 1,024; a file of over 1,008 has 1,536 bytes, any other 1,024
  *   10  settings         1 to 16
  *   11  law              0, 1 or 2
@@ -145,13 +152,13 @@ uint64_t qpl_room(uint64_t channels, uint64_t scans, uint64_t settings, uint8_t 
  * later one (filler, of which the writer makes its own) is zero. */
 
 /* Reads a plan file of any bytes and any length.
- * Answer (88 bytes): scans, settings, law, kind (0 average, 1 minmax), budget, n, d, rate, distortion, peak, floor. In a file of kind 1 n, d
- * and floor are 0.
- * Refusals, the first that applies: 11, 12, 13, 6 (plan under scans bytes, or answer under 88), 14.
+ * Answer (96 bytes): scans, settings, law, kind (0 average, 1 minmax), budget, n, d, rate, distortion, peak, floor, version (1 for QPL1, 2
+ * for QPL2). In a file of kind 1 n, d and floor are 0.
+ * Refusals, the first that applies: 11, 12, 13, 6 (plan under scans bytes, or answer under 96), 14.
  * On 0 the first `scans` bytes of plan are the settings and the rest is as it was; on a refusal all of plan is as it was. */
 uint64_t qpl_read(const uint8_t *file, size_t file_length, uint8_t *plan, size_t plan_length, uint8_t *answer, size_t answer_length);
 
-/* Writes the plan file of these fields and settings. There is no answer beside the file.
+/* Writes the plan file of these fields and settings, as QPL2. There is no answer beside the file.
  * Refusals, the first that applies: 13, 6 (plan under scans bytes, or file too short), 14.
  * On 0 the first 1,024 bytes of file (1,536 where scans is over 1,008) are the plan file and the rest is as it was; on a refusal all of
  * file is as it was. What is written reads back as the same fields and settings. */

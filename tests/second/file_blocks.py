@@ -1,7 +1,6 @@
 """Files of a wrong length, of a length that does not go with N, and with bad blocks: a wrong number, a wrong check, another order."""
 
-import planfile
-from file_changes import four_bytes, mended, sample, third_block, with_bytes, with_entry, with_field
+from file_changes import four_bytes, mended, qpl1, sample, third_block, with_bytes, with_entry, with_field
 
 # Lengths
 
@@ -10,7 +9,7 @@ def lengths(out, draw):
     """Lengths beside the two that there are, of files that are good as far as they go."""
     for one in ((1008, 4, 0, 0), (1009, 4, 0, 1), (3, 4, 1, 0)):
         f, settings = sample(draw, *one)
-        file = bytearray(planfile.composed(f, settings))
+        file = bytearray(qpl1(f, settings))
         long = third_block(file) if len(file) == 1024 else file
         for more in (0, 165):
             longer = long + bytes([more]) * 3072
@@ -23,7 +22,7 @@ def a_block_more(out, draw):
     """N that goes with two blocks in a file of three, alone and beside other faults."""
     for scans in (1, 2, 1007, 1008):
         f, settings = sample(draw, scans, 4, 0, scans % 2)
-        file = third_block(planfile.composed(f, settings))
+        file = third_block(qpl1(f, settings))
         out.read(file, scans)
         out.read(file, 0)
         for changes in ({4: 0}, {10: 0}, {513: 1}, {1025: 1}, {1028: 1}, {1535: 1}):
@@ -37,7 +36,7 @@ def a_block_less(out, draw):
     """N that goes with three blocks in a file of two, alone and beside other faults."""
     for scans in (1009, 1010, 1023, 1024):
         f, settings = sample(draw, scans, 4, 0, scans % 2)
-        file = mended(planfile.composed(f, settings)[:1024])
+        file = mended(qpl1(f, settings)[:1024])
         out.read(file, scans)
         out.read(file, 0)
         for changes in ({4: 0}, {10: 0}, {513: 1}, {516: 255}):
@@ -92,7 +91,7 @@ def bad_blocks(out, draw):
     """Numbers and checks, of one block and of several."""
     for one in ((70, 6, 0, 0), (1008, 6, 1, 1), (1012, 6, 0, 0), (1024, 6, 1, 1)):
         f, settings = sample(draw, *one)
-        file, lent = planfile.composed(f, settings), f["scans"]
+        file, lent = qpl1(f, settings), f["scans"]
         for block in range(len(file) // 512):
             wrong_numbers(out, file, lent, block)
             wrong_checks(out, file, lent, block)

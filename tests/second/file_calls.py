@@ -1,8 +1,8 @@
 """Calls of the plan-file reader and writer: the bytes that file_cases reads for them, as crates/file_cases/src/main.rt takes them, and the
 lines that it must write, from the answers of planfile.py.
 
-A line holds the number that comes back, the values (a read: the eleven fields in their order in the file; a write: the file's length; a
-refusal: what it carries), and "b" with the lent buffer."""
+A line holds the number that comes back, the values (a read: the eleven fields in their order in the file, and the version; a write: the
+file's length; a refusal: what it carries), and "b" with the lent buffer."""
 
 import struct
 from collections import Counter
@@ -37,7 +37,7 @@ class FileCalls:
     """The calls, beside what file_cases keeps from call to call: the file, the writer's settings and its fields."""
 
     def __init__(self):
-        self.stdin, self.lines, self.counts = [], [], {"read": Counter(), "write": Counter()}
+        self.stdin, self.lines, self.counts, self.versions = [], [], {"read": Counter(), "write": Counter()}, Counter()
         self.file, self.given, self.fields = bytearray(FILE_ROOM), bytearray(GIVEN_ROOM), [0] * 11
 
     def read(self, file, lent):
@@ -55,9 +55,9 @@ class FileCalls:
         self.given[: len(given)] = given
         self.answered("write", *planfile.write(f, bytes(given), pattern(lent, START)))
 
-    def both(self, f, settings, lent=None):
-        """The plan's file through the reader, and its fields and settings through the writer."""
-        self.read(planfile.composed(f, settings), len(settings) + 1 if lent is None else lent)
+    def both(self, f, settings, lent=None, version=1):
+        """The plan's file of that version through the reader, and its fields and settings through the writer, which makes that of QPL2."""
+        self.read(planfile.composed(f, settings, version), len(settings) + 1 if lent is None else lent)
         self.write(f, settings)
 
     def changed_fields(self, f):
@@ -68,4 +68,6 @@ class FileCalls:
 
     def answered(self, call, number, values, lent):
         self.counts[call][number] += 1
+        if (call, number) == ("read", 0):
+            self.versions[values[-1]] += 1
         self.lines.append(line(number, values, ("b", lent, START)))

@@ -1,10 +1,12 @@
-"""A sample plan, and changes to a plan's file: bytes, fields, entries and blocks, with the checks of the blocks made right again."""
+"""A sample plan, and changes to a plan's file: bytes, fields, entries and blocks, with the checks of the blocks made right again: right by
+the letters that the file has after the change."""
 
 import planfile
 
 # a way to break each header field alone, whatever the kind: by the first byte of the field, the bytes of a file, and the writer's fields
 BREAKERS = {
-    4: ({7: 50}, {}),
+    # QPL3
+    4: ({7: 51}, {}),
     8: ({8: 0, 9: 0}, {"scans": 0}),
     10: ({10: 17}, {"settings": 17}),
     11: ({11: 3}, {"law": 3}),
@@ -35,12 +37,23 @@ def sample(draw, scans, settings, law, kind):
     return f, planfile.random_settings(draw, f)
 
 
-def mended(file):
-    """The file with the check of each whole block made right."""
+def qpl1(f, settings):
+    """The plan's file as it was written before there was QPL2. Such files are still read, and all parts of the vectors but those of
+    file_versions.py and file_damage.py are about them."""
+    return planfile.composed(f, settings, 1)
+
+
+def sealed_by(file, checks):
+    """The file with the check of each whole block made what the next of `checks` says of the bytes before it."""
     out = bytearray(file)
-    for start in range(0, len(out) - 511, 512):
-        out[start + 508 : start + 512] = sum(out[start : start + 508]).to_bytes(4, "little")
+    for start, check in zip(range(0, len(out) - 511, 512), checks):
+        out[start + 508 : start + 512] = check(out[start : start + 508]).to_bytes(4, "little")
     return out
+
+
+def mended(file):
+    """The file with the check of each whole block made right: that which its own letters choose."""
+    return sealed_by(file, [planfile.check_for(file[4:8])] * (len(file) // 512))
 
 
 def with_bytes(file, changes, mend=True):

@@ -1,7 +1,6 @@
 """The entries of a plan file: settings too high or against the law, steps of every size, and what stands from entry N on."""
 
-import planfile
-from file_changes import sample, with_entry, with_field
+from file_changes import qpl1, sample, with_entry, with_field
 
 # Settings too high or against the law
 
@@ -43,7 +42,7 @@ def entries(out, draw):
             if law == 1:
                 # all the same, so that both neighbours hold any step
                 chosen = [draw.randrange(settings)] * scans
-            file = planfile.composed(f, chosen)
+            file = qpl1(f, chosen)
             out.read(file, scans)
             for k in places:
                 read_entry(out, draw, file, f, chosen, places, k)
@@ -68,7 +67,7 @@ def steps(out, draw):
             for after in range(16):
                 if scans == 2 or abs(abs(before - after) - 2) <= 1:
                     out.both(f, [before] * (k + 1) + [after] * (scans - k - 1), scans)
-        out.read(planfile.composed(dict(f, law=0), [15, 0] * (scans // 2) + [15] * (scans % 2)), scans)
+        out.read(qpl1(dict(f, law=0), [15, 0] * (scans // 2) + [15] * (scans % 2)), scans)
 
 
 # From entry N on
@@ -85,7 +84,7 @@ def filler(out, draw):
     """What stands from entry N on, at one place, at two, and behind a bad entry."""
     for scans in (1, 2, 3, 4, 501, 502, 1005, 1006, 1007, 1008, 1009, 1010, 1011, 1023, 1024):
         f, chosen = sample(draw, scans, 16, scans % 2, scans % 3 % 2)
-        file = planfile.composed(f, chosen)
+        file = qpl1(f, chosen)
         places = filler_places(scans, len(file) // 512 * 1008 - 1008)
         for k in places:
             for value in (1, 2, 8, 15):

@@ -1,7 +1,7 @@
 """Several faults at once, in a file and in what the writer gets: the first in the document's order has to come."""
 
 import planfile
-from file_changes import BREAKERS, broken, with_bytes, with_entry
+from file_changes import BREAKERS, broken, qpl1, with_bytes, with_entry
 from laws import LAWS
 
 
@@ -11,7 +11,7 @@ class Faulty:
 
     def __init__(self, draw, f, chosen):
         self.draw, self.scans, self.f, self.given = draw, f["scans"], f, list(chosen)
-        self.file, self.lent = bytearray(planfile.composed(f, chosen)), self.scans + draw.choice([0, 3])
+        self.file, self.lent = bytearray(qpl1(f, chosen)), self.scans + draw.choice([0, 3])
         self.target = planfile.length_for(self.scans) + draw.choice([0, 1])
 
     def entry(self):

@@ -5,7 +5,7 @@ import itertools
 
 import planfile
 from edges import TOP, around
-from file_changes import BREAKERS, broken, sample, with_bytes, with_field
+from file_changes import BREAKERS, broken, qpl1, sample, with_bytes, with_field
 
 TERM, TOTAL, PEAK = planfile.MOST_TERM, planfile.MOST_TOTAL, planfile.MOST_PEAK
 ENDS = {
@@ -63,7 +63,7 @@ def every_bit(out, f, settings, file):
 
 def letters_and_zeros(out, file, scans):
     """Each letter, in the other case and in another order; each run of zeros at its first, middle and last byte, and just outside."""
-    for letters in (b"qPL1", b"QpL1", b"QPl1", b"QPL2", b"QPL\0", b"1LPQ", b"PQ1L", b"\0\0\0\0"):
+    for letters in (b"qPL1", b"QpL1", b"QPl1", b"QPL3", b"QPL\0", b"1LPQ", b"PQ1L", b"\0\0\0\0"):
         out.read(with_bytes(file, dict(enumerate(letters, 4))), scans)
     for at in (13, 14, 15, 48, 49, 50, 100, 255, 256, 277, 278, 500, 506, 507):
         for byte in (1, 128, 255):
@@ -76,7 +76,7 @@ def letters_and_zeros(out, file, scans):
 def each_field(out, draw):
     """Every field alone at both sides of each of its limits, in a file and as the writer's number."""
     for f, settings, bits in small_plans(draw):
-        file = planfile.composed(f, settings)
+        file = qpl1(f, settings)
         at_limits(out, f, settings, file)
         if bits:
             every_bit(out, f, settings, file)
@@ -106,7 +106,7 @@ def terms(out, draw):
     pairs = pairs_of_terms(draw)
     for kind in (0, 1):
         f, settings = sample(draw, 3, 4, 1, kind)
-        file = planfile.composed(f, settings)
+        file = qpl1(f, settings)
         for n, d in pairs:
             out.read(with_field(with_field(file, "n", n), "d", d), 3)
             out.write(dict(f, n=n, d=d), settings)
@@ -129,7 +129,7 @@ def compared(out, draw):
                     dict(floor=value, distortion=most, peak=value),
                 ):
                     g = dict(f, **change)
-                    out.read(planfile.composed(g, settings), 3)
+                    out.read(qpl1(g, settings), 3)
                     out.write(g, settings)
 
 
@@ -140,7 +140,7 @@ def several_fields(out, draw):
     """Every pair of broken fields, and some threes of them."""
     for kind in (0, 1):
         f, settings = sample(draw, 5, 4, 0, kind)
-        file = planfile.composed(f, settings)
+        file = qpl1(f, settings)
         for pair in itertools.combinations(BREAKERS, 2):
             in_file, in_fields = broken(pair)
             out.read(with_bytes(file, in_file), 5)

@@ -1,6 +1,7 @@
 """Plans that keep every rule, through the reader and the writer: every N, and the ends of all fields."""
 
 import planfile
+from file_changes import qpl1
 from laws import LAWS
 
 
@@ -13,7 +14,7 @@ def every_size(out, draw):
             settings = planfile.random_settings(draw, whole)
         f = dict(whole, scans=scans)
         extra = draw.choice([0, 0, 1, 9])
-        out.read(planfile.composed(f, settings[:scans]), scans + extra)
+        out.read(qpl1(f, settings[:scans]), scans + extra)
         # what stands in the writer's slice past the first N is no concern of it
         given = settings[:scans] + [255] * draw.choice([0, 0, 1])
         out.write(f, given, planfile.length_for(scans) + draw.choice([0, 0, 1, 600]))

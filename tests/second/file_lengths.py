@@ -1,12 +1,12 @@
 """Buffers of every kind of length, lent to the reader and the writer, and the writer's settings likewise."""
 
 import planfile
-from file_changes import sample, with_bytes, with_entry
+from file_changes import qpl1, sample, with_bytes, with_entry
 
 
 def lent_to_the_reader(out, f, chosen):
     """Beside a good file, bad entries, a bad header and a bad block."""
-    file, scans = planfile.composed(f, chosen), f["scans"]
+    file, scans = qpl1(f, chosen), f["scans"]
     faulty = [with_entry(file, 0, 15), with_entry(file, scans - 1, 15), with_bytes(file, {13: 1}), with_bytes(file, {509: 9}, False)]
     for each in [file] + faulty:
         for lent in sorted({0, 1, scans - 1, scans, scans + 1, scans + 40, 1024, 1025, 4608}):

@@ -1,14 +1,14 @@
 """Every byte of a file changed in turn."""
 
-import planfile
-from file_changes import sample, with_bytes
+from file_changes import qpl1, sample, with_bytes
 
 # one of each length and kind: entries to the last, filler from the middle of a byte on, a few entries in block 2, and any setting allowed
 SAMPLES = [(1008, 8, 0, 0), (501, 5, 1, 1), (1024, 8, 1, 0), (1011, 16, 0, 1)]
 
 
 def changed(f, at, byte):
-    """What a sweep puts in a byte's place: one more, its top bit the other way, or the bit that is the top of its low half."""
+    """What a sweep puts in a byte's place: one more, its top bit the other way, or the bit that is the top of its low half. One more in the
+    last letter makes QPL2, and with the checks made right for that a good file."""
     plus, top, middle = (byte + 1) % 256, byte ^ 0x80, byte ^ 0x08
     if at < 48 or at % 512 < 4:
         return [plus, top]
@@ -25,7 +25,7 @@ def sweeps(out, draw):
     """The check left as it was, where only the length matters, and made right again."""
     for k, one in enumerate(SAMPLES):
         f, settings = sample(draw, *one)
-        file = planfile.composed(f, settings)
+        file = qpl1(f, settings)
         lent = f["scans"] + 2
         out.read(file, lent)
         for at in range(len(file)):

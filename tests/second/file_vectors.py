@@ -5,6 +5,7 @@ import random
 from crate_files import store
 from file_blocks import a_block_less, a_block_more, bad_blocks, lengths
 from file_calls import FileCalls
+from file_damage import bridge_chip, changed_bytes, exchanged_neighbours, exchanged_pairs
 from file_entries import entries, filler, high_halves, steps
 from file_faults import several_faults
 from file_fields import compared, each_field, several_fields, terms
@@ -12,6 +13,10 @@ from file_good import all_ends, every_size
 from file_laws import laws_and_kinds, steps_at, steps_between
 from file_lengths import buffer_lengths
 from file_sweeps import sweeps
+from file_versions import (
+    bad_blocks_of_qpl2, every_bit_of_checks, good_files, header_of_qpl2, large_and_small_checks, laws_of_qpl2, lengths_of_qpl2, letters,
+    letters_in_data, nearly_right_checks, nearly_the_same, orders_of_refusals,
+)
 from lines import counted
 
 PARTS = [
@@ -22,6 +27,11 @@ PARTS = [
     entries, high_halves, steps, filler,
     buffer_lengths, several_faults, sweeps,
     laws_and_kinds, steps_between, steps_at,
+    good_files, large_and_small_checks,
+    letters, letters_in_data, nearly_the_same,
+    nearly_right_checks, every_bit_of_checks, bad_blocks_of_qpl2,
+    header_of_qpl2, laws_of_qpl2, orders_of_refusals, lengths_of_qpl2,
+    bridge_chip, changed_bytes, exchanged_neighbours, exchanged_pairs,
 ]
 
 
@@ -35,3 +45,4 @@ def make(into):
     print("calls %d, stdin %d bytes, stdout %d bytes" % (len(out.lines), len(stdin), len(stdout)))
     for call, counts in out.counts.items():
         print(call + " by number: " + counted(counts))
+    print("good reads by version: " + counted(out.versions))

@@ -1,12 +1,16 @@
 #!/usr/bin/env python3
-"""What the plan-file reader and writer must answer, written from document 01, "Plan file" and "Numbers a caller can get back", and request
-[2] of document 02, and sharing nothing with the library.
+"""What the plan-file reader and writer must answer, written from document 01, "Plan file" and "Numbers a caller can get back", and requests
+[2] and [4] of document 02, and sharing nothing with the library.
 
 `read` and `write` are whole calls: the number that comes back (0: no refusal), the values beside it, and what the lent buffer holds
-afterwards. The reader's values are the eleven fields in the order of `FIELDS`, the writer's the file's length; a refusal's what it carries.
-Run as a program, this file writes and reads random files, and holds files that are put together in another way against both."""
+afterwards. The reader's values are the eleven fields in the order of `FIELDS` and then the version, 1 for QPL1 and 2 for QPL2, the writer's
+the file's length; a refusal's what it carries.
+Run as a program, this file writes and reads random files, holds files that are put together in another way against both, and damages files
+of QPL2 in the ways that request [4] names."""
 
+import itertools
 import math
+import operator
 import random
 import sys
 
@@ -28,12 +32,15 @@ FIELDS = [
 ]
 NAMES = [name for name, _, _ in FIELDS]
 
-LETTERS = b"QPL1"
+# by version, which is no field of a plan: the writer is told none
+LETTERS = {1: b"QPL1", 2: b"QPL2"}
 AVERAGE, MINMAX = 0, 1
 
 BLOCK = 512
 # the bytes of a block between its number and its check
 FIRST, END = 4, 508
+# what each of a block's first 508 bytes weighs in the check of QPL2
+WEIGHTS = range(END, 0, -1)
 # the runs of zeros in block 0
 ZEROS = [(13, 16), (48, 508)]
 ENTRIES_TO_A_BLOCK = 2 * (END - FIRST)
@@ -119,9 +126,22 @@ def blocks_of(file):
     return [file[start : start + BLOCK] for start in range(0, len(file), BLOCK)]
 
 
-def check_blocks(blocks):
+def old_check(content):
+    return sum(content)
+
+
+def new_check(content):
+    return 1 + sum(map(operator.mul, WEIGHTS, content))
+
+
+def check_for(letters):
+    """What checks all blocks of a file with these letters: unknown ones take the old sum."""
+    return new_check if letters == LETTERS[2] else old_check
+
+
+def check_blocks(blocks, check):
     for k, block in enumerate(blocks):
-        if number(block[:FIRST]) != k or number(block[END:]) != sum(block[:END]):
+        if number(block[:FIRST]) != k or number(block[END:]) != check(block[:END]):
             raise Refusal(12, k)
 
 
@@ -137,23 +157,23 @@ def entries_of(blocks):
     return out
 
 
-def sealed(k, inner):
+def sealed(k, inner, check):
     """A block from its number and what stands between number and check."""
     block = k.to_bytes(4, "little") + bytes(inner)
-    return block + sum(block).to_bytes(4, "little")
+    return block + check(block).to_bytes(4, "little")
 
 
-def composed(f, settings):
+def composed(f, settings, version=2):
     """The file, rules or no rules, of numbers that fit their fields."""
     head = bytearray(END - FIRST)
-    head[:4] = LETTERS
+    head[:4] = LETTERS[version]
     for name, at, width in FIELDS:
         head[at - FIRST : at - FIRST + width] = f[name].to_bytes(width, "little")
     size = length_for(f["scans"]) // BLOCK - 1
     entries = list(settings) + [0] * (size * ENTRIES_TO_A_BLOCK - len(settings))
     packed = [low + 16 * high for low, high in zip(entries[::2], entries[1::2])]
     inners = [packed[k * (END - FIRST) : (k + 1) * (END - FIRST)] for k in range(size)]
-    return b"".join(sealed(k, inner) for k, inner in enumerate([head] + inners))
+    return b"".join(sealed(k, inner, check_for(LETTERS[version])) for k, inner in enumerate([head] + inners))
 
 
 # Whole calls
@@ -163,10 +183,11 @@ def reading(file, room):
     if len(file) not in (1024, 1536):
         raise Refusal(11, 0)
     blocks = blocks_of(file)
-    check_blocks(blocks)
+    letters = blocks[0][4:8]
+    check_blocks(blocks, check_for(letters))
     f = fields_of(blocks[0])
     broken = broken_fields(f)
-    if blocks[0][4:8] != LETTERS:
+    if letters not in LETTERS.values():
         broken.append(4)
     if length_for(f["scans"]) != len(file):
         broken.append(8)
@@ -178,15 +199,16 @@ def reading(file, room):
         raise Refusal(6, 0)
     entries = entries_of(blocks)
     check_entries(f, entries)
-    return f, entries[: f["scans"]]
+    version = next(version for version in LETTERS if LETTERS[version] == letters)
+    return f, entries[: f["scans"]], version
 
 
 def read(file, buffer):
     try:
-        f, settings = reading(file, len(buffer))
+        f, settings, version = reading(file, len(buffer))
     except Refusal as refusal:
         return refusal.args[0], [refusal.args[1]], bytes(buffer)
-    return 0, [f[name] for name in NAMES], bytes(settings) + bytes(buffer[len(settings) :])
+    return 0, [f[name] for name in NAMES] + [version], bytes(settings) + bytes(buffer[len(settings) :])
 
 
 def writing(f, settings, room):
@@ -255,51 +277,100 @@ def random_settings(draw, f):
 # The self check
 
 
-def another_way(f, settings):
+def check_by_running_sums(content, version):
+    """The check of one version with no products: added up anew after each byte, the sums so far hold byte 0 508 times and byte 507 once."""
+    so_far, sums = 0, 1
+    for byte in content:
+        so_far += byte
+        sums += so_far
+    return {1: so_far, 2: sums}[version]
+
+
+def four_bytes(value):
+    return bytes([value & 255, value >> 8 & 255, value >> 16 & 255, value >> 24])
+
+
+def another_way(f, settings, version):
     """The same file as one number for each block, in which every field and entry is a summand."""
     packed = sum(setting << 4 * k for k, setting in enumerate(settings))
     bits = 504 * 8
-    parts = [0x314C5051, packed % 2 ** bits, packed >> bits]
+    parts = [0x304C5051 + (version << 24), packed % 2 ** bits, packed >> bits]
     for byte, name in zip((8, 10, 11, 12, 16, 24, 28, 32, 36, 40, 44), NAMES):
         parts[0] += f[name] << 8 * (byte - 4)
     file = b""
     for k, part in enumerate(parts[: 3 if f["scans"] > 1008 else 2]):
         content = ((part << 32) + k).to_bytes(508, "little")
-        check = 0
-        for byte in content:
-            check += byte
-        file += content + bytes([check & 255, check >> 8 & 255, check >> 16, 0])
+        file += content + four_bytes(check_by_running_sums(content, version))
     return file
 
 
+def with_checks(file, versions):
+    """The file with the check of block k made that of versions[k]."""
+    out = bytearray(file)
+    for start, version in zip(range(0, len(file) - 511, 512), versions):
+        out[start + 508 : start + 512] = four_bytes(check_by_running_sums(out[start : start + 508], version))
+    return bytes(out)
+
+
+def with_changes(file, changes):
+    out = bytearray(file)
+    for at, byte in changes.items():
+        out[at] = byte
+    return bytes(out)
+
+
+def exchanged(file, j, k):
+    return with_changes(file, {j: file[k], k: file[j]})
+
+
+# Table T, average 17: settings 0 1, multiplier 3/5, rate 13, distortion 8, peak 6, floor 6. Every byte that is not zero is written out, but
+# for the law's and the checks'.
+AVERAGE_17 = {4: 81, 5: 80, 6: 76, 8: 2, 10: 2, 16: 17, 24: 3, 28: 5, 32: 13, 36: 8, 40: 6, 44: 6, 512: 1, 516: 16}
+# By version, the last letter, the check of block 0 under law 0 and under law 1, and that of block 1; low byte first.
+# QPL1: 286 for the letters, 4 for N and Q, 17, 3, 5, 13, 8, 6 and 6 make 348, and law 1 makes 349. Block 1: 1 and 16.
+# QPL2: 81 * 504 + 80 * 503 + 76 * 502 + 50 * 501 for the letters, 2 * 500, 2 * 498, 17 * 492, 3 * 484, 5 * 480, 13 * 476, 8 * 472, 6 * 468,
+# 6 * 464 and 1 make 174,035, and law 1 adds 497: 174,532. Block 1: 1 * 508, 16 * 504 and 1 make 8,573.
+WRITTEN_OUT = {
+    1: (49, {0: (92, 1, 0, 0), 1: (93, 1, 0, 0)}, (17, 0, 0, 0)),
+    2: (50, {0: (211, 167, 2, 0), 1: (196, 169, 2, 0)}, (125, 33, 0, 0)),
+}
+
+
+def average_17(version, law):
+    letter, checks, check = WRITTEN_OUT[version]
+    file = bytearray(1024)
+    for at, byte in AVERAGE_17.items():
+        file[at] = byte
+    file[7], file[11] = letter, law
+    file[508:512], file[1020:1024] = checks[law], check
+    return bytes(file)
+
+
 def by_hand():
-    """Table T, average 17: settings 0 1, multiplier 3/5, rate 13, distortion 8, peak 6, floor 6; and its minmax plan. Every byte that is
-    not zero is written out."""
-    average = bytearray(1024)
-    for at, byte in {4: 81, 5: 80, 6: 76, 7: 49, 8: 2, 10: 2, 16: 17, 24: 3, 28: 5, 32: 13, 36: 8, 40: 6, 44: 6}.items():
-        average[at] = byte
-    # 286 for the letters, 4 for N and Q, 17, 3, 5, 13, 8, 6 and 6
-    average[508:510] = 348 % 256, 348 // 256
-    average[512], average[516] = 1, 16
-    average[1020] = 17
-    told = [2, 2, 0, 0, 17, 3, 5, 13, 8, 6, 6]
-    assert read(bytes(average), b"\7\7\7") == (0, told, b"\0\1\7")
-    assert write(dict(zip(NAMES, told)), b"\0\1\7", b"\6" * 1026) == (0, [1024], bytes(average) + b"\6\6")
-    minmax = bytearray(average)
-    minmax[12], minmax[24], minmax[28], minmax[44] = 1, 0, 0, 0
-    minmax[508:510] = 335 % 256, 335 // 256
+    """Table T's average plan for 17 under both laws, and its minmax plan, as files of both versions."""
+    for version, law in itertools.product((1, 2), (0, 1)):
+        average, told = average_17(version, law), [2, 2, law, 0, 17, 3, 5, 13, 8, 6, 6]
+        assert read(average, b"\7\7\7") == (0, told + [version], b"\0\1\7")
+        assert composed(dict(zip(NAMES, told)), [0, 1], version) == average
+        # what is written is QPL2
+        assert write(dict(zip(NAMES, told)), b"\0\1\7", b"\6" * 1026) == (0, [1024], average_17(2, law) + b"\6\6")
     told = [2, 2, 0, 1, 17, 0, 0, 13, 8, 6, 0]
-    assert read(bytes(minmax), b"\7\7") == (0, told, b"\0\1")
-    assert write(dict(zip(NAMES, told)), b"\0\1", bytes(1024)) == (0, [1024], bytes(minmax))
+    for version, check in ((1, 335), (2, 167895)):
+        # n, d and floor are zero, and the kind is 1: less 14 and 1 more, less 3 * 484 + 5 * 480 + 6 * 464 and 496 more
+        minmax = with_changes(average_17(version, 0), {12: 1, 24: 0, 28: 0, 44: 0, **dict(enumerate(four_bytes(check), 508))})
+        assert read(minmax, b"\7\7") == (0, told + [version], b"\0\1")
+    assert write(dict(zip(NAMES, told)), b"\0\1", bytes(1024)) == (0, [1024], minmax)
+
+
+def refusals_by_hand():
+    """Refusals of table T's average plan for 17: the same for both versions."""
 
     def refused(changes, number, carried, length=1024, room=2, mend=True):
-        file = bytearray(average + bytes(1024))[:length]
-        for at, byte in changes.items():
-            file[at] = byte
-        for start in range(0, length - 511, 512):
+        for version in (1, 2):
+            file = with_changes((average_17(version, 0) + bytes(1024))[:length], changes)
             if mend:
-                file[start + 508 : start + 512] = sum(file[start : start + 508]).to_bytes(4, "little")
-        assert read(bytes(file), b"\7" * room) == (number, [carried], b"\7" * room), (changes, number, carried)
+                file = with_checks(file, [2 if file[4:8] == b"QPL2" else 1] * 3)
+            assert read(file, b"\7" * room) == (number, [carried], b"\7" * room), (version, changes, number, carried)
 
     refused({}, 11, 0, length=1023)
     refused({4: 80}, 12, 0, mend=False)
@@ -308,6 +379,8 @@ def by_hand():
     refused({1024: 2}, 13, 8, length=1536)
     refused({}, 12, 2, length=1536)
     refused({4: 113}, 13, 4)
+    refused({7: 51}, 13, 4)
+    refused({7: 51, 9: 4}, 13, 4)
     refused({9: 4}, 13, 8)
     refused({10: 17, 11: 3}, 13, 10)
     refused({11: 3}, 13, 11)
@@ -330,48 +403,131 @@ def by_hand():
     refused({1019: 16}, 14, 1007)
 
 
+def letters_by_hand():
+    """The letters of block 0 choose the check of all blocks. Checks that no letters choose together, and letters changed with the checks
+    left: 12; of unknown letters the old sums alone lead to 13."""
+
+    def refused(file, number, carried):
+        assert read(bytes(file), b"\7\7") == (number, [carried], b"\7\7")
+
+    for law in (0, 1):
+        old, new = average_17(1, law), average_17(2, law)
+        for file in (old, new):
+            for letter in range(256):
+                if letter != file[7]:
+                    refused(with_changes(file, {7: letter}), 12, 0)
+        refused(with_checks(old, (2, 1)), 12, 0)
+        refused(with_checks(old, (2, 2)), 12, 0)
+        refused(with_checks(old, (1, 2)), 12, 1)
+        refused(with_checks(new, (1, 2)), 12, 0)
+        refused(with_checks(new, (1, 1)), 12, 0)
+        refused(with_checks(new, (2, 1)), 12, 1)
+        # a 49 or a 50 elsewhere exchanged with the last letter makes the other letters, and leaves the old sum
+        for letter, version in ((49, 2), (50, 1)):
+            file = with_checks(with_changes(average_17(version, law), {16: letter}), (version, version))
+            assert read(file, b"\7\7")[0] == 0
+            refused(exchanged(file, 7, 16), 12, 0)
+        for letters in (b"QPL3", b"QPL0", b"QPL\0", b"qPL2", b"QPl1", b"2LPQ", bytes(4)):
+            unknown = with_changes(new, dict(enumerate(letters, 4)))
+            refused(with_checks(unknown, (1, 1)), 13, 4)
+            refused(with_checks(unknown, (2, 1)), 12, 0)
+            refused(with_checks(unknown, (2, 2)), 12, 0)
+            refused(with_checks(unknown, (1, 2)), 12, 1)
+
+
+def bridge_chip():
+    """Request [4]'s bridge chip: of a plan of 4 scans, settings 0 1 1 1, bytes 4 and 5 of block 1 are exchanged."""
+    f, settings = dict(zip(NAMES, [4, 2, 1, 0, 17, 3, 5, 13, 8, 6, 6])), bytes([0, 1, 1, 1])
+    old, new = another_way(f, settings, 1), another_way(f, settings, 2)
+    assert (old[516], old[517], number(old[508:512]), number(old[1020:])) == (16, 17, 351, 34)
+    assert (new[516], new[517], number(new[1020:])) == (16, 17, 17124)
+    assert read(exchanged(old, 516, 517), b"\7" * 4) == (0, list(f.values()) + [1], bytes([1, 1, 0, 1]))
+    assert check_by_running_sums(exchanged(new, 516, 517)[512:1020], 2) == 17125
+    assert read(exchanged(new, 516, 517), b"\7" * 4) == (12, [1], b"\7" * 4)
+
+
+def damaged(draw):
+    """Files of QPL2, as they were sealed: every change of one byte among a block's 508 in a file of two blocks, exchanges in one of three.
+    Gives how many of each there were."""
+    file, changes, exchanges = average_17(2, 1), 0, 0
+    for block, at in itertools.product(range(2), range(508)):
+        changed, place = bytearray(file), 512 * block + at
+        for byte in range(256):
+            if byte != file[place]:
+                changed[place] = byte
+                assert read(changed, b"\7\7") == (12, [block], b"\7\7")
+                changes += 1
+    f = random_fields(draw, 1024, 16, 0, 0)
+    plan = another_way(f, random_settings(draw, f), 2)
+    # any bytes between the letters and the checks: the blocks are right, and rules come behind them
+    filled = [bytes(draw.randrange(256) for _ in range(size)) for size in (504, 508)]
+    other = with_checks(plan[:8] + filled[0] + plan[512:1028] + filled[1], (2, 2, 2))
+    assert read(plan, bytes(1024))[0] == 0 and read(other, bytes(1024))[0] == 13
+    while exchanges < 5000:
+        file, block = draw.choice([plan, other]), draw.randrange(3)
+        # the letters' last byte with any other, neighbours, and any two
+        j = 7 if block == 0 and draw.random() < 0.2 else draw.randrange(508)
+        k = draw.choice([(j + 1) % 508, draw.randrange(508)])
+        if file[512 * block + j] != file[512 * block + k]:
+            assert read(exchanged(file, 512 * block + j, 512 * block + k), b"") == (12, [block], b"")
+            exchanges += 1
+    return changes, exchanges
+
+
 def lawful():
     """Files of 2 scans and 4 settings under each law, and under numbers that are none: what comes back for 3 0, for 0 3 and for 0 2."""
     refusals, carried = {0: (0, 0, 0), 1: (14, 14, 0), 2: (0, 14, 0), 3: (13, 13, 13), 255: (13, 13, 13)}, {13: [11], 14: [1]}
-    for kind, told in ((AVERAGE, [7, 0, 1, 7, 4, 3, 4]), (MINMAX, [7, 0, 0, 7, 4, 3, 0])):
+    for version, kind in itertools.product((1, 2), (AVERAGE, MINMAX)):
+        told = [7, 0, 1, 7, 4, 3, 4] if kind == AVERAGE else [7, 0, 0, 7, 4, 3, 0]
         for law, numbers in refusals.items():
             f = dict(zip(NAMES, [2, 4, law, kind] + told))
             for settings, refusal in zip(((3, 0), (0, 3), (0, 2)), numbers):
-                file = another_way(f, settings)
-                read_so, written_so = (0, list(f.values()), bytes(settings)), (0, [1024], file)
+                read_so, written_so = (0, list(f.values()) + [version], bytes(settings)), (0, [1024], another_way(f, settings, 2))
                 if refusal:
                     read_so, written_so = (refusal, carried[refusal], b"\7\7"), (refusal, carried[refusal], bytes(1024))
-                assert read(file, b"\7\7") == read_so and write(f, bytes(settings), bytes(1024)) == written_so
+                assert read(another_way(f, settings, version), b"\7\7") == read_so
+                assert write(f, bytes(settings), bytes(1024)) == written_so
             # a kind has a rule of its own, behind the law's
             for other in (2, 3, 255):
                 refused_at = 12 if law in (0, 1, 2) else 11
-                assert read(another_way(dict(f, kind=other), (0, 0)), b"\7\7") == (13, [refused_at], b"\7\7")
+                assert read(another_way(dict(f, kind=other), (0, 0), version), b"\7\7") == (13, [refused_at], b"\7\7")
         for law in NO_LAWS:
             f = dict(zip(NAMES, [2, 4, law, kind] + told))
             assert write(f, bytes(2), bytes(1024)) == (13, [11], bytes(1024))
 
 
-def main():
-    by_hand()
-    lawful()
-    draw = random.Random(30)
-    count = 0
+def at_random(draw):
+    """Random files of both versions. Gives how many plans there were."""
     for k in range(1500):
         scans = draw.choice([1, 2, 3, 1007, 1008, 1009, 1010, 1023, 1024, draw.randint(1, 1024)])
         f = random_fields(draw, scans, 1 + k % 16, k // 16 % 3, k // 48 % 2)
         settings = random_settings(draw, f)
-        file = another_way(f, settings)
+        old, new = another_way(f, settings, 1), another_way(f, settings, 2)
+        assert (composed(f, settings, 1), composed(f, settings)) == (old, new)
         lent = bytes([draw.randrange(256)]) * draw.choice([scans, scans + 1, 1100])
-        assert read(file, lent) == (0, list(f.values()), bytes(settings) + lent[scans:])
-        target = bytes([draw.randrange(256)]) * (len(file) + draw.choice([0, 1, 700]))
+        for version, file in ((1, old), (2, new)):
+            assert read(file, lent) == (0, list(f.values()) + [version], bytes(settings) + lent[scans:])
+        target = bytes([draw.randrange(256)]) * (len(new) + draw.choice([0, 1, 700]))
         given = bytes(settings) + bytes(draw.randrange(256) for _ in range(draw.choice([0, 3])))
         number_back, values, after = write(f, given, target)
-        assert (number_back, values, after) == (0, [len(file)], file + target[len(file) :])
-        # what was written reads back, and what was read writes back
-        number_back, values, plan = read(after[: len(file)], bytes(scans))
-        assert write(dict(zip(NAMES, values)), plan, bytes(len(file)))[2] == file
-        count += 1
-    print("planfile.py: the files made by hand hold, and %d random files are read and written alike" % count)
+        assert (number_back, values, after) == (0, [len(new)], new + target[len(new) :])
+        # what was written reads back as QPL2, and what was read, of either version, writes back
+        for file in (old, after[: len(new)]):
+            number_back, values, plan = read(file, bytes(scans))
+            assert write(dict(zip(NAMES, values)), plan, bytes(len(new)))[2] == new
+    return 1500
+
+
+def main():
+    by_hand()
+    refusals_by_hand()
+    letters_by_hand()
+    bridge_chip()
+    lawful()
+    draw = random.Random(30)
+    count = at_random(draw)
+    print("planfile.py: the files made by hand hold, and %d random plans are read and written alike" % count)
+    print("planfile.py: %d changes of one byte and %d exchanges of two in files of QPL2 are refused" % damaged(draw))
 
 
 if __name__ == "__main__":

@@ -9,7 +9,7 @@ from planner import AVERAGE, CEILING, MINMAX, MULTIPLIER
 
 NAMES = {CEILING: "ceiling", MULTIPLIER: "multiplier", MINMAX: "minmax", AVERAGE: "average"}
 NEEDS = {CEILING: 24, MULTIPLIER: 24, MINMAX: 32, AVERAGE: 48}
-ROOM_NEEDS, READ_NEEDS, EXPORT_NEEDS = 24, 88, 8
+ROOM_NEEDS, READ_NEEDS, EXPORT_NEEDS = 24, 96, 8
 
 # Document 01's orders: a buffer that is too short is 6, after these and before all others.
 BEFORE_ROOM = {1, 2, 3, 4, 5, 11, 12, 13}
@@ -48,12 +48,12 @@ def read_call(file, plan, answer):
     """The number, and the buffers answer and plan."""
     short = len(answer) < READ_NEEDS
     try:
-        f, settings = planfile.reading(file, len(plan))
+        f, settings, version = planfile.reading(file, len(plan))
     except planfile.Refusal as refusal:
         return word(6, 0) if short and refusal.args[0] not in BEFORE_ROOM else word(*refusal.args), answer, plan
     if short:
         return word(6, 0), answer, plan
-    return 0, with_values([f[name] for name in planfile.NAMES], answer), bytes(settings) + plan[len(settings) :]
+    return 0, with_values([f[name] for name in planfile.NAMES] + [version], answer), bytes(settings) + plan[len(settings) :]
 
 
 def write_call(f, settings, file):

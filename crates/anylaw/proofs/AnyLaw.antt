@@ -15,7 +15,7 @@ use Rattle.promise.proofs.Unique.{ceiling-settled, multiplier-settled, minmax-s
 use Rattle.promise.proofs.Exactly.{ceiling-exactly, multiplier-exactly, minmax-exactly, average-exactly}
 use Rattle.promise.proofs.Demands.{demand-answered-under}
 use Rattle.planfile.proofs.Back.{written-keeps}
-use Rattle.planfile.proofs.Accepted.{accepted-keeps, accepted-file-under, accepted-plan-under}
+use Rattle.planfile.proofs.Accepted.{accepted-keeps, accepted-file-under, accepted-known-under, accepted-plan-under}
 use Rattle.filing.proofs.CanBeWritten.{reads-back-under, average-written-under, minmax-written-under, average-read-back-under, minmax-read-back-under}
 use Rattle.anylaw.specs.Passes.{PassesHold}
 use Rattle.anylaw.specs.Demands.{OneAnswer, AnswersRight, DemandsHold}
@@ -59,6 +59,7 @@ any-law {law} {test} tests = (
     reads-back = λ lawless f settings room w b h. reads-back-under lawless test f settings room w b h;
     accepts = λ lawless file room bytes e. record {
       keeps = accepted-keeps lawless test file room e tests;
+      known = accepted-known-under lawless test file room e;
       same = accepted-file-under lawless test file room e bytes;
       written = accepted-plan-under lawless test file room e;
     };

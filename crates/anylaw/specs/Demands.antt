@@ -22,6 +22,7 @@ use Rattle.promise.specs.declared.AveragePlan.{AveragePlan}
 use Rattle.promise.specs.Promise.{plan-reply, minmax-reply, average-reply, CeilingPromise, MultiplierPromise, MinmaxPromise, AveragePromise}
 use Rattle.promise.specs.Says.{SomeAnswer, SaysExactly, Answered}
 use Rattle.rules.specs.declared.Fields.{Fields}
+use Rattle.blocks.specs.Letters.{Known, version-of}
 use Rattle.blocks.specs.File.{file-length, file-of, entry-at}
 use Rattle.entries.specs.Entries.{KeepsLaw}
 use Rattle.planfile.specs.Reading.{fields-of, entries, read-refusal-under}
@@ -47,10 +48,12 @@ pub record AnswersRight (a : Asked) (plan scratch : List ℕ) : Type 0 where
   pub minmax-says : (B : ℕ) {p s : List ℕ} (r : MinmaxAnswer) → MinmaxPromise a B plan scratch r p s → SaysExactly none a (InBudget (problem-of a) B) (minmax-reply r)
   pub average-says : (B : ℕ) {p s : List ℕ} (r : AverageAnswer) → AveragePromise a B plan scratch r p s → SaysExactly none a (InBudget (problem-of a) B) (average-reply r)
 
--- the settings of an accepted file keep the law; it is the file of the plan that is read from it, and the writer takes that plan
+-- The settings of an accepted file keep the law. Its letters are QPL1 or QPL2, it is the file of the plan that is read from it in that version,
+-- and the writer takes that plan; so in QPL2 it is the file that the writer writes.
 pub record IsPlansFile (lawless : Bool) (law : Law) (test : ℕ → ℕ → Bool) (file : List ℕ) : Type 0 where
   pub keeps : KeepsLaw law (fields-of file .scans) (fields-of file .settings) (entry-at file)
-  pub same : file-of (fields-of file) (entries (entry-at file) 0 (fields-of file .scans)) ≡ file
+  pub known : Known (version-of file)
+  pub same : file-of (version-of file) (fields-of file) (entries (entry-at file) 0 (fields-of file .scans)) ≡ file
   pub written : (room : ℕ) → file-length (fields-of file .scans) ≤ room →
       write-refusal-under lawless test (fields-of file) (entries (entry-at file) 0 (fields-of file .scans)) room ≡ none
 
@@ -75,7 +78,7 @@ pub record DemandsHold (law : Law) (test : ℕ → ℕ → Bool) : Type 0 where
   -- "A written file reads back as the same plan"
   pub reads-back : (lawless : Bool) (f : Fields) (settings : List ℕ) (room : ℕ) → write-refusal-under lawless test f settings room ≡ none →
       f .law < 256 → f .budget < 2 ^ 64 → ReadsBackUnder lawless test f settings
-  -- "every accepted file is the one its plan would be written as"
+  -- "every accepted file is the one its plan would be written as": of QPL2; of QPL1, the one its plan has in QPL1
   pub accepts : (lawless : Bool) (file : List ℕ) (room : ℕ) → ((i : ℕ) → getD file i 0 < 256) → read-refusal-under lawless test file room ≡ none →
       IsPlansFile lawless law test file
   -- and every plan that is given with a budget has a file

@@ -1,4 +1,6 @@
 pub mod SumLaws
+pub mod DifferLaws
+pub mod LetterLaws
 pub mod PairLaws
 pub mod LengthLaws
 pub mod BlockLaws

@@ -17,25 +17,25 @@ use Rattle.bytes.proofs.NumberLaws.{Bytes, number-back}
 use Rattle.bytes.proofs.HalfLaws.{halves}
 use Rattle.blocks.proofs.PairLaws.{pairs-part}
 
-module _ (file : List ℕ) (bytes : Bytes file) where
-  -- a block that is not broken has its number and the sum of its bytes
-  block-rules : (k : ℕ) → block-broken file k ≡ false
-      → (number-at (512 * k) 4 file ≡ k) × (number-at (512 * k + 508) 4 file ≡ check-of (part (512 * k) 508 file))
-  unfolding block-broken
-  block-rules k b =
-      let n = neither (not (eqb (number-at (512 * k) 4 file) k)) _ b in
-      (eqb-true _ _ (not-false _ (n .0)), eqb-true _ _ (not-false _ (n .1)))
+-- a block that is not broken has its number and the check of its bytes
+pub block-rules : (version : ℕ) (file : List ℕ) (k : ℕ) → block-broken version file k ≡ false
+    → (number-at (512 * k) 4 file ≡ k) × (number-at (512 * k + 508) 4 file ≡ check-of version (part (512 * k) 508 file))
+unfolding block-broken
+block-rules version file k b =
+    let n = neither (not (eqb (number-at (512 * k) 4 file) k)) _ b in
+    (eqb-true _ _ (not-false _ (n .0)), eqb-true _ _ (not-false _ (n .1)))
 
+module _ (version : ℕ) (file : List ℕ) (bytes : Bytes file) where
   -- its number is its first four bytes
-  pub number-part : (k : ℕ) → 512 * k + 512 ≤ length file → block-broken file k ≡ false → le 4 k ≡ part (512 * k) 4 file
-  number-part k h b = ap (le 4) (sym (block-rules k b .0)) ∙ number-back (512 * k) 4 file bytes (omega arith)
+  pub number-part : (k : ℕ) → 512 * k + 512 ≤ length file → block-broken version file k ≡ false → le 4 k ≡ part (512 * k) 4 file
+  number-part k h b = ap (le 4) (sym (block-rules version file k b .0)) ∙ number-back (512 * k) 4 file bytes (omega arith)
 
-  -- and it is its first 508 bytes with their sum
-  pub sealed-part : (k : ℕ) (body : List ℕ) → 512 * k + 512 ≤ length file → block-broken file k ≡ false → body ≡ part (512 * k) 508 file
-      → sealed body ≡ part (512 * k) 512 file
+  -- and it is its first 508 bytes with their check
+  pub sealed-part : (k : ℕ) (body : List ℕ) → 512 * k + 512 ≤ length file → block-broken version file k ≡ false → body ≡ part (512 * k) 508 file
+      → sealed version body ≡ part (512 * k) 512 file
   sealed-part k body h b e =
       part-join file (512 * k) 508 4 e
-      (ap (λ (l : List ℕ). le 4 (check-of l)) e ∙ ap (le 4) (sym (block-rules k b .1))
+      (ap (λ (l : List ℕ). le 4 (check-of version l)) e ∙ ap (le 4) (sym (block-rules version file k b .1))
       ∙ number-back (512 * k + 508) 4 file bytes (omega arith))
 
   -- the two entries of a byte are the byte
@@ -60,8 +60,8 @@ module _ (file : List ℕ) (bytes : Bytes file) where
       ∙ entry-pair b i g)
 
   -- so data block b is block b + 1 of the file
-  data-part : (e : ℕ → ℕ) (b : ℕ) → 512 * suc b + 512 ≤ length file → block-broken file (suc b) ≡ false
-      → ((j : ℕ) → j < 1008 * suc b → e j ≡ entry-at file j) → sealed (data-block e b) ≡ part (512 * suc b) 512 file
+  data-part : (e : ℕ → ℕ) (b : ℕ) → 512 * suc b + 512 ≤ length file → block-broken version file (suc b) ≡ false
+      → ((j : ℕ) → j < 1008 * suc b → e j ≡ entry-at file j) → sealed version (data-block e b) ≡ part (512 * suc b) 512 file
   unfolding data-block
   data-part e b h broken same =
       sealed-part (suc b) (data-block e b) h broken
@@ -69,8 +69,8 @@ module _ (file : List ℕ) (bytes : Bytes file) where
 
   -- n data blocks from b on are as many blocks of the file
   pub blocks-part : (e : ℕ → ℕ) (n b : ℕ) → 512 * suc b + 512 * n ≤ length file
-      → ((k : ℕ) → k < suc b + n → block-broken file k ≡ false) → ((j : ℕ) → j < 1008 * (b + n) → e j ≡ entry-at file j)
-      → data-from e b n ≡ part (512 * suc b) (512 * n) file
+      → ((k : ℕ) → k < suc b + n → block-broken version file k ≡ false) → ((j : ℕ) → j < 1008 * (b + n) → e j ≡ entry-at file j)
+      → data-from version e b n ≡ part (512 * suc b) (512 * n) file
   blocks-part e zero b h sound same = refl
   blocks-part e (suc n) b h sound same =
       let one = data-part e b (omega arith) (sound (suc b) (omega arith)) (λ j g. same j (omega arith)) in

@@ -1,32 +1,26 @@
--- Document 01, "Plan file": the bytes that a plan is written as. Assumes nothing.
-use mathlib.Core.Bool.{cond}
+-- Document 01, "Plan file", with document 02, [4]: the bytes that a plan has as a file of a version. Assumes nothing.
+use mathlib.Core.Bool.{Bool, not, cond}
 use mathlib.Core.List.{List, [], _∷_, _++_}
 use Prim.Native.Nat.{ℕ, zero, suc, _+_, _*_, _/_, _%_}
-use lib.Dec.{ltb}
+use lib.Dec.{eqb, ltb}
 use lib.ListN.{getD, replicate}
 use Rattle.blocks.specs.Sizes.{block-size, block-entries, block-pairs, first-run, last-run, short-file, long-file}
+use Rattle.blocks.specs.Letters.{letters}
 use Rattle.blocks.specs.BlockCheck.{check-of}
 use Rattle.rules.specs.declared.Fields.{Fields}
 use Rattle.bytes.specs.Bytes.{le, half}
-use mathlib.Core.Bool.{Bool, not, cond}
-use Prim.Native.Nat.{ℕ, zero, suc, _+_, _*_, _/_}
-use lib.Dec.{eqb, ltb}
-use lib.ListN.{getD, replicate}
-
--- "the four letters QPL1"
-abbrev pub letters : List ℕ
-letters = 81 ∷ 80 ∷ 76 ∷ 49 ∷ []
 
 -- a block: its bytes, and then their check
-abbrev pub sealed : List ℕ → List ℕ
-sealed body = body ++ le 4 (check-of body)
+abbrev pub sealed : (version : ℕ) → List ℕ → List ℕ
+sealed version body = body ++ le 4 (check-of version body)
 
--- Block 0: its number; "4 to 7: the four letters QPL1. 8 to 9: N. 10: Q. 11: law. 12: kind .. . 13 to 15: zero. 16 to 23: B. 24 to 27: n.
--- 28 to 31: d. 32 to 35: rate. 36 to 39: distortion. 40 to 43: peak. 44 to 47: floor. 48 to 507: zero."
-unfoldable pub header : Fields → List ℕ
-header f =
-    le 4 0 ++ letters ++ le 2 (f .scans) ++ le 1 (f .settings) ++ le 1 (f .law) ++ le 1 (f .kind) ++ replicate first-run 0 ++ le 8 (f .budget) ++ le 4 (f .n)
-    ++ le 4 (f .d) ++ le 4 (f .rate .0) ++ le 4 (f .distortion .0) ++ le 4 (f .peak) ++ le 4 (f .floor .0) ++ replicate last-run 0
+-- Block 0: its number; "4 to 7: the four letters", which are the version's; "8 to 9: N. 10: Q. 11: law. 12: kind .. . 13 to 15: zero. 16 to
+-- 23: B. 24 to 27: n. 28 to 31: d. 32 to 35: rate. 36 to 39: distortion. 40 to 43: peak. 44 to 47: floor. 48 to 507: zero."
+unfoldable pub header : (version : ℕ) → Fields → List ℕ
+header version f =
+    le 4 0 ++ letters version ++ le 2 (f .scans) ++ le 1 (f .settings) ++ le 1 (f .law) ++ le 1 (f .kind) ++ replicate first-run 0
+    ++ le 8 (f .budget) ++ le 4 (f .n) ++ le 4 (f .d) ++ le 4 (f .rate .0) ++ le 4 (f .distortion .0) ++ le 4 (f .peak) ++ le 4 (f .floor .0)
+    ++ replicate last-run 0
 
 -- "entries from N on are zero"
 abbrev pub entry-of : ℕ → List ℕ → ℕ → ℕ
@@ -48,13 +42,13 @@ data-blocks N = cond (ltb block-entries N) 2 1
 abbrev pub file-length : ℕ → ℕ
 file-length N = block-size * suc (data-blocks N)
 
-abbrev pub data-from : (ℕ → ℕ) → ℕ → ℕ → List ℕ
-data-from e b zero = []
-data-from e b (suc n) = sealed (data-block e b) ++ data-from e (suc b) n
+abbrev pub data-from : (version : ℕ) → (ℕ → ℕ) → ℕ → ℕ → List ℕ
+data-from version e b zero = []
+data-from version e b (suc n) = sealed version (data-block e b) ++ data-from version e (suc b) n
 
--- the file of a plan: block 0, then its data blocks
-abbrev pub file-of : Fields → List ℕ → List ℕ
-file-of f settings = sealed (header f) ++ data-from (entry-of (f .scans) settings) 0 (data-blocks (f .scans))
+-- the file of a plan, as one of this version: block 0, then its data blocks
+abbrev pub file-of : (version : ℕ) → Fields → List ℕ → List ℕ
+file-of version f settings = sealed version (header version f) ++ data-from version (entry-of (f .scans) settings) 0 (data-blocks (f .scans))
 
 -- entry j of a file
 abbrev pub entry-at : List ℕ → ℕ → ℕ

@@ -24,9 +24,10 @@ fn put_fields(f: Fields) {
 
 pub fn put_read(answer: ReadAnswer) {
     match answer {
-        ReadAnswer::Read(f) => {
+        ReadAnswer::Read(p) => {
             put(0);
-            put_fields(f);
+            put_fields(p.fields);
+            put(p.version);
         }
         ReadAnswer::Refused(r) => put_refusal(r),
     }

@@ -39,7 +39,9 @@ use Rattle.entries.specs.Entries.{entry-broken, KeepsLaw}
 use Rattle.entries.proofs.EntryLaws.{keeps-law}
 use Rattle.planfile.specs.Writing.{no-faults, write-refusal-under, write-refusal}
 use Rattle.checks.proofs.CheckLaws.{else-nothing, none-first}
-use Rattle.planfile.proofs.Back.{settings-back-under, fields-back-under, read-back-under, settings-back, fields-back, read-back}
+use Rattle.blocks.specs.Letters.{qpl2}
+use Rattle.blocks.proofs.LetterLaws.{qpl2-known}
+use Rattle.planfile.proofs.Back.{version-back, settings-back-under, fields-back-under, read-back-under, settings-back, fields-back, read-back}
 use Rattle.filing.specs.Filing.{average-fields, minmax-fields, ReadsBackUnder, ReadsBack}
 use Rattle.checks.proofs.RangeLaws.{passes-range}
 use Rattle.filing.proofs.KeptLaws.{n-kept, d-kept, no-n-kept, no-d-kept, rate-kept, peak-kept, floor-at-most, largest-at-most, steps-kept}
@@ -178,19 +180,21 @@ room-enough o room N e h = e ∙ ap (λ (t : Bool). when t refusal.Buffer) (le-l
 pub reads-back-under : (lawless : Bool) (test : ℕ → ℕ → Bool) (f : Fields) (settings : List ℕ) (room : ℕ) →
     write-refusal-under lawless test f settings room ≡ none → f .law < 256 → f .budget < 2 ^ 64 → ReadsBackUnder lawless test f settings
 reads-back-under lawless test f settings room w b h = record {
-  fields = fields-back-under lawless test f settings room w b h;
-  settings-read = settings-back-under lawless test f settings room w;
+  version = version-back qpl2 qpl2-known f settings;
+  fields = fields-back-under lawless test f settings room w qpl2 qpl2-known b h;
+  settings-read = settings-back-under lawless test f settings room w qpl2 qpl2-known;
   unrefused = λ r g.
-      read-back-under lawless test f settings room w b h r ∙ ap (λ (t : Bool). when t refusal.Buffer) (le-ltb r (f .scans) g);
+      read-back-under lawless test f settings room w qpl2 qpl2-known b h r ∙ ap (λ (t : Bool). when t refusal.Buffer) (le-ltb r (f .scans) g);
 }
 
 -- .. with the law by its number
 reads-back : (f : Fields) (settings : List ℕ) (room : ℕ) → write-refusal f settings room ≡ none → f .budget < 2 ^ 64 → ReadsBack f settings
 reads-back f settings room w h = record {
-  fields = fields-back f settings room w h;
-  settings-read = settings-back f settings room w;
+  version = version-back qpl2 qpl2-known f settings;
+  fields = fields-back f settings room w qpl2 qpl2-known h;
+  settings-read = settings-back f settings room w qpl2 qpl2-known;
   unrefused = λ r g.
-      read-back f settings room w h r ∙ ap (λ (t : Bool). when t refusal.Buffer) (le-ltb r (f .scans) g);
+      read-back f settings room w qpl2 qpl2-known h r ∙ ap (λ (t : Bool). when t refusal.Buffer) (le-ltb r (f .scans) g);
 }
 
 -- Under any law that has a test, whatever number stands for it in the file.

@@ -9,6 +9,7 @@ use Rattle.tables.specs.Law.{allows, law-out}
 use Rattle.promise.specs.declared.AveragePlan.{AveragePlan}
 use Rattle.promise.specs.declared.MinmaxPlan.{MinmaxPlan}
 use Rattle.rules.specs.declared.Fields.{Fields}
+use Rattle.blocks.specs.Letters.{qpl2, version-of}
 use Rattle.blocks.specs.File.{file-of, entry-at}
 use Rattle.planfile.specs.Reading.{fields-of, read-refusal-under, entries}
 
@@ -44,13 +45,14 @@ minmax-fields N Q law B m = record {
   floor = record { 0 = 0 };
 }
 
--- what is read from the file of these fields and settings: the fields, the first N settings, and no refusal where the settings buffer has
--- room for N; of the law, whether it is none that a file may carry, and a test of it
+-- what is read from the file that is written of these fields and settings: that it is QPL2, the fields, the first N settings, and no refusal
+-- where the settings buffer has room for N; of the law, whether it is none that a file may carry, and a test of it
 pub record ReadsBackUnder (lawless : Bool) (test : ℕ → ℕ → Bool) (f : Fields) (settings : List ℕ) : Type 0 where
-  pub fields : fields-of (file-of f settings) ≡ f
-  pub settings-read : entries (entry-at (file-of f settings)) 0 (f .scans) ≡ take (f .scans) settings
-  pub unrefused : (room : ℕ) → f .scans ≤ room → read-refusal-under lawless test (file-of f settings) room ≡ none
+  pub version : version-of (file-of qpl2 f settings) ≡ qpl2
+  pub fields : fields-of (file-of qpl2 f settings) ≡ f
+  pub settings-read : entries (entry-at (file-of qpl2 f settings)) 0 (f .scans) ≡ take (f .scans) settings
+  pub unrefused : (room : ℕ) → f .scans ≤ room → read-refusal-under lawless test (file-of qpl2 f settings) room ≡ none
 
 -- .. with the law by the number that stands in the file
 abbrev pub ReadsBack : Fields → List ℕ → Type 0
-ReadsBack f settings = let law = fields-of (file-of f settings) .law in ReadsBackUnder (law-out law) (allows law) f settings
+ReadsBack f settings = let law = fields-of (file-of qpl2 f settings) .law in ReadsBackUnder (law-out law) (allows law) f settings

@@ -1,5 +1,5 @@
--- Theorem b: every accepted file is the one that its plan is written as, and the writer accepts that plan, whatever test the entries are put
--- to; and where it is a test of a law, they keep it. Assumes nothing.
+-- Theorem b: every accepted file is the one that its plan has, as one of the version that its letters say, and the writer accepts that plan,
+-- whatever test the entries are put to; and where it is a test of a law, they keep it. Assumes nothing.
 use mathlib.Core.Path.{_≡_, refl, sym, ap, _∙_}
 use mathlib.Core.Bool.{Bool, true, false, not, _||_, _&&_, cond}
 use mathlib.Core.Option.{none}
@@ -15,6 +15,7 @@ use Rattle.checks.specs.Planning.{scans-out}
 use Rattle.laws.proofs.Tests.{neither}
 use Rattle.rules.specs.declared.Fields.{Fields}
 use Rattle.bytes.specs.Bytes.{number-at}
+use Rattle.blocks.specs.Letters.{Known, version-of}
 use Rattle.blocks.specs.File.{entry-of, header, data-blocks, file-length, file-of, entry-at}
 use Rattle.tables.specs.Law.{Law, Tests, allows, law-out}
 use Rattle.entries.specs.Entries.{entry-broken, KeepsLaw}
@@ -30,6 +31,7 @@ use Rattle.checks.proofs.CheckLaws.{none-else, else-none, none-when, none-found
 use Rattle.rules.proofs.FieldLaws.{RulesHold, rules-hold, rules-pass, limited}
 use Rattle.planfile.proofs.FieldLaws.{same-broken}
 use Rattle.blocks.proofs.LengthLaws.{within, right-length}
+use Rattle.blocks.proofs.LetterLaws.{version-known}
 use Rattle.blocks.proofs.SoundLaws.{sealed-part, blocks-part}
 use Rattle.planfile.proofs.HeaderLaws.{header-part}
 
@@ -86,9 +88,9 @@ module _ {lawless : Bool} {test : ℕ → ℕ → Bool} (file : List ℕ) (room 
   long = right-length (length file) (number-at 8 2 file) (scans-rule .1)
 
   -- every block of the file has its number and check
-  sound-block : (k : ℕ) → k < suc (data-blocks (f .scans)) → block-broken file k ≡ false
+  sound-block : (k : ℕ) → k < suc (data-blocks (f .scans)) → block-broken (version-of file) file k ≡ false
   unfolding bad-block
-  sound-block k g = none-so (length file / 512) (block-broken file) 0 (h .blocks) k (omega arith) (omega (arith, long))
+  sound-block k g = none-so (length file / 512) (block-broken (version-of file) file) 0 (h .blocks) k (omega arith) (omega (arith, long))
 
   -- every entry of its data blocks keeps its rule
   sound-entry : (j : ℕ) → j < 1008 * data-blocks (f .scans)
@@ -107,15 +109,20 @@ module _ {lawless : Bool} {test : ℕ → ℕ → Bool} (file : List ℕ) (room 
       → entry-of (f .scans) settings j ≡ entry-at file j
   same-entry j g = shown (f .scans) (f .settings) test (entry-at file) j (sound-entry j g)
 
+  -- its letters are those of a version
+  known-letters : Known (version-of file)
+  unfolding faults-of
+  known-letters = version-known file (h .rules .letters)
+
   -- the file is its block 0 and its data blocks
-  written-back : Bytes file → file-of f settings ≡ file
+  written-back : Bytes file → file-of (version-of file) f settings ≡ file
   written-back bytes =
       let n = data-blocks (f .scans) in
       let whole : 512 + 512 * n ≡ length file = omega (arith, long) in
-      let broken : block-broken file 0 ≡ false = sound-block 0 (omega arith) in
+      let broken : block-broken (version-of file) file 0 ≡ false = sound-block 0 (omega arith) in
       part-join file 0 512 (512 * n)
-      (sealed-part file bytes 0 (header f) (omega arith) broken (header-part file bytes (omega arith) broken (h .rules)))
-      (blocks-part file bytes (entry-of (f .scans) settings) n 0 (omega arith) (λ k g. sound-block k (omega arith))
+      (sealed-part (version-of file) file bytes 0 (header (version-of file) f) (omega arith) broken (header-part file bytes (version-of file) (omega arith) broken (h .rules)))
+      (blocks-part (version-of file) file bytes (entry-of (f .scans) settings) n 0 (omega arith) (λ k g. sound-block k (omega arith))
       (λ j g. same-entry j (omega arith)))
       ∙ take-all (512 + 512 * n) file (omega arith)
 
@@ -167,10 +174,14 @@ module _ {lawless : Bool} {test : ℕ → ℕ → Bool} (file : List ℕ) (room 
       (else-none _ _ (ap (λ (b : Bool). when b refusal.Buffer) (not-short room₂ g))
       (else-none _ none (ap (found refusal.Entry) (none-first (f .scans) _ 0 (λ j l k. written-entries j (omega arith)))) refl))
 
--- Theorem b: every accepted file is the one that its plan is written as.
+-- Theorem b: every accepted file is the one that its plan has in its version.
 module _ (lawless : Bool) (test : ℕ → ℕ → Bool) (file : List ℕ) (room : ℕ) (accepted : read-refusal-under lawless test file room ≡ none) where
-  pub accepted-file-under : ((i : ℕ) → getD file i 0 < 256) → file-of (fields-of file) (entries (entry-at file) 0 (fields-of file .scans)) ≡ file
+  pub accepted-file-under : ((i : ℕ) → getD file i 0 < 256) → file-of (version-of file) (fields-of file) (entries (entry-at file) 0 (fields-of file .scans)) ≡ file
   accepted-file-under bytes = written-back file room (passed-under lawless test file room accepted) bytes
+
+  -- Its version is one of the two.
+  pub accepted-known-under : Known (version-of file)
+  accepted-known-under = known-letters file room (passed-under lawless test file room accepted)
 
   -- Its settings keep the law, of which the reader had a test.
   pub accepted-keeps : {law : Law} → Tests test law → KeepsLaw law (fields-of file .scans) (fields-of file .settings) (entry-at file)
@@ -187,8 +198,11 @@ pub passed : (file : List ℕ) (room : ℕ) → read-refusal file room ≡ none 
 passed file room e = passed-under (law-out (fields-of file .law)) (allows (fields-of file .law)) file room e
 
 pub accepted-file : (file : List ℕ) (room : ℕ) → ((i : ℕ) → getD file i 0 < 256) → read-refusal file room ≡ none
-    → file-of (fields-of file) (entries (entry-at file) 0 (fields-of file .scans)) ≡ file
+    → file-of (version-of file) (fields-of file) (entries (entry-at file) 0 (fields-of file .scans)) ≡ file
 accepted-file file room bytes e = accepted-file-under (law-out (fields-of file .law)) (allows (fields-of file .law)) file room e bytes
+
+pub accepted-known : (file : List ℕ) (room : ℕ) → read-refusal file room ≡ none → Known (version-of file)
+accepted-known file room e = accepted-known-under (law-out (fields-of file .law)) (allows (fields-of file .law)) file room e
 
 pub accepted-plan : (file : List ℕ) (room room₂ : ℕ) → read-refusal file room ≡ none → file-length (fields-of file .scans) ≤ room₂
     → write-refusal (fields-of file) (entries (entry-at file) 0 (fields-of file .scans)) room₂ ≡ none

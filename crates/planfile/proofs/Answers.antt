@@ -5,7 +5,7 @@ use Prim.Native.Nat.{ℕ}
 use lib.ListN.{getD}
 use Rattle.tables.specs.Refusals.{Reply}
 use Rattle.tables.proofs.RefusalLaws.{refused-unique, answered-or-refused}
-use Rattle.rules.specs.declared.Fields.{Fields}
+use Rattle.planfile.specs.declared.read.PlanRead.{PlanRead}
 use Rattle.planfile.specs.declared.read.ReadAnswer.{ReadAnswer}
 use Rattle.planfile.specs.declared.read.ReadAnswer.the-variants as read-answer
 use Rattle.planfile.specs.declared.write.WriteAnswer.{WriteAnswer}
@@ -13,26 +13,29 @@ use Rattle.planfile.specs.declared.write.WriteAnswer.the-variants as wri
 use Rattle.planfile.specs.Reading.{read-reply}
 use Rattle.planfile.specs.Writing.{write-reply}
 
--- fields from their values
-unfoldable fields-from : List ℕ → Fields
-fields-from v = record {
-  scans = getD v 0 0;
-  settings = getD v 1 0;
-  law = getD v 2 0;
-  kind = getD v 3 0;
-  budget = getD v 4 0;
-  n = getD v 5 0;
-  d = getD v 6 0;
-  rate = record { 0 = getD v 7 0 };
-  distortion = record { 0 = getD v 8 0 };
-  peak = getD v 9 0;
-  floor = record { 0 = getD v 10 0 };
+-- what was read, from its values
+unfoldable read-from : List ℕ → PlanRead
+read-from v = record {
+  fields = record {
+    scans = getD v 0 0;
+    settings = getD v 1 0;
+    law = getD v 2 0;
+    kind = getD v 3 0;
+    budget = getD v 4 0;
+    n = getD v 5 0;
+    d = getD v 6 0;
+    rate = record { 0 = getD v 7 0 };
+    distortion = record { 0 = getD v 8 0 };
+    peak = getD v 9 0;
+    floor = record { 0 = getD v 10 0 };
+  };
+  version = getD v 11 0;
 }
 
 -- The promises settle the answers: two with one number and the same values are the same.
 pub read-unique : (a b : ReadAnswer) → read-reply a ≡ read-reply b → a ≡ b
-unfolding fields-from
-read-unique (read-answer.Read f) (read-answer.Read g) e = ap (λ (x : Reply). read-answer.Read (fields-from (x .values))) e
+unfolding read-from
+read-unique (read-answer.Read f) (read-answer.Read g) e = ap (λ (x : Reply). read-answer.Read (read-from (x .values))) e
 read-unique (read-answer.Read f) (read-answer.Refused r) e = absurd (answered-or-refused r e)
 read-unique (read-answer.Refused r) (read-answer.Read f) e = absurd (answered-or-refused r (sym e))
 read-unique (read-answer.Refused r) (read-answer.Refused r′) e = ap read-answer.Refused (refused-unique e)

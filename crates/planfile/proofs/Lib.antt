@@ -4,7 +4,6 @@ pub mod HeaderLaws
 pub mod EntryLaws
 pub mod EnteredLaws
 pub mod PutLaws
-pub mod WalkLaws
 pub mod Answers
 pub mod Back
 pub mod Lent

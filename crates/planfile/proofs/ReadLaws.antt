@@ -20,12 +20,14 @@ use Rattle.rules.specs.declared.Fields.{Fields}
 use Rattle.checks.specs.declared.stage.Stage.{Stage}
 use Rattle.checks.specs.declared.stage.Stage.the-variants.{Passed}
 use Rattle.bytes.specs.Bytes.{number-at}
+use Rattle.blocks.specs.Letters.{version-of}
 use Rattle.blocks.specs.File.{entry-at, file-length, other-length}
 use Rattle.checks.specs.Checks.{when, first-from, found, first-refusal}
 use Rattle.entries.specs.Entries.{entry-broken}
 use Rattle.checks.specs.Stages.{ended}
 use Rattle.blocks.specs.Blocks.{length-out}
-use Rattle.planfile.specs.Reading.{reader-checks, bad-entry-under, bad-entry, fields-of, faults-of, field-values, entries, read-refusal-under, read-refusal, read-of, settings-after}
+use Rattle.planfile.specs.declared.read.PlanRead.{PlanRead}
+use Rattle.planfile.specs.Reading.{reader-checks, bad-entry-under, bad-entry, fields-of, faults-of, plan-read, read-values, entries, read-refusal-under, read-refusal, read-of, settings-after}
 use Rattle.checks.proofs.StageLaws.{passed-none}
 use Rattle.checks.proofs.CheckLaws.{none-when}
 use Rattle.rules.proofs.FieldLaws.{limited}
@@ -44,17 +46,21 @@ pub refused-read : (file settings : List ℕ) (r : Refusal) → read-refusal fil
 unfolding read-of
 refused-read file settings r e = (sym (rw e refl), sym (rw e refl))
 
+-- what is read of a file, from its fields and its version
+pub same-read : (file : List ℕ) {f : Fields} {v : ℕ} → f ≡ fields-of file → v ≡ version-of file → record { fields = f; version = v } ≡ plan-read file
+same-read file p q = λ i. record { fields = p i; version = q i }
+
 -- the answer and the settings buffer of a file that is read
-pub accepted-read : (file settings after : List ℕ) (f : Fields) → f ≡ fields-of file → fields-of file .scans ≤ length settings
+pub accepted-read : (file settings after : List ℕ) (p : PlanRead) → p ≡ plan-read file → fields-of file .scans ≤ length settings
     → after ≡ sets settings 0 (entries (entry-at file) 0 (fields-of file .scans)) → read-refusal file (length settings) ≡ none
-    → (answered (field-values f) ≡ read-of file (length settings)) × (after ≡ settings-after (read-refusal file (length settings)) file settings)
+    → (answered (read-values p) ≡ read-of file (length settings)) × (after ≡ settings-after (read-refusal file (length settings)) file settings)
 unfolding read-of
-accepted-read file settings after f q h s e =
+accepted-read file settings after p q h s e =
     let N = fields-of file .scans in
     let l = entries (entry-at file) 0 N in
     let n : length l ≡ N = length-entries (entry-at file) 0 N in
     let k : 0 + length l ≤ length settings = omega (arith, n, h) in (
-      ap (λ g. answered (field-values g)) q ∙ sym (rw e refl),
+      ap (λ g. answered (read-values g)) q ∙ sym (rw e refl),
       s ∙ sets-eq l settings 0 k ∙ ap (λ m. l ++ drop m settings) (zero-add (length l) ∙ n) ∙ sym (rw e refl),
     )
 

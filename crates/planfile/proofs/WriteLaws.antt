@@ -20,6 +20,7 @@ use Rattle.laws.proofs.Tests.{neither}
 use Rattle.laws.proofs.Stores.{sets-append}
 use Rattle.blocks.proofs.DataLaws.{length-data}
 use Rattle.rules.specs.declared.Fields.{Fields}
+use Rattle.blocks.specs.Letters.{qpl2}
 use Rattle.blocks.specs.File.{sealed, data-block, data-from, file-of, file-length}
 use Rattle.tables.specs.Law.{allows, law-out}
 use Rattle.rules.specs.Rules.{header-rules}
@@ -42,15 +43,15 @@ refused-write f settings file r e = (sym (rw e refl), sym (rw e refl))
 
 -- the answer and the file buffer of a write
 pub accepted-write : (f : Fields) (settings file after : List ℕ) (n : ℕ) → n ≡ file-length (f .scans) → file-length (f .scans) ≤ length file
-    → after ≡ sets file 0 (file-of f settings) → write-refusal f settings (length file) ≡ none
+    → after ≡ sets file 0 (file-of qpl2 f settings) → write-refusal f settings (length file) ≡ none
     → (answered (n ∷ []) ≡ write-of f settings (length file)) × (after ≡ file-after (write-refusal f settings (length file)) f settings file)
 unfolding write-of
 accepted-write f settings file after n q h s e =
-    let l = length-back f settings in
-    let k : 0 + length (file-of f settings) ≤ length file = omega (arith, l, h) in (
+    let l = length-back qpl2 f settings in
+    let k : 0 + length (file-of qpl2 f settings) ≤ length file = omega (arith, l, h) in (
       ap (λ m. answered (m ∷ [])) q ∙ sym (rw e refl),
-      s ∙ sets-eq (file-of f settings) file 0 k
-          ∙ ap (λ m. file-of f settings ++ drop m file) (zero-add (length (file-of f settings)) ∙ l)
+      s ∙ sets-eq (file-of qpl2 f settings) file 0 k
+          ∙ ap (λ m. file-of qpl2 f settings ++ drop m file) (zero-add (length (file-of qpl2 f settings)) ∙ l)
           ∙ sym (rw e refl),
     )
 
@@ -80,28 +81,28 @@ settings-small f settings room e j h =
     rw (ap (λ b. cond b (getD settings j 0) 0) t) at (entry-small f settings (writable (law-out (f .law)) (allows (f .law)) f settings room e) j)
 
 -- one data block more, from block b on
-data-snoc : (e : ℕ → ℕ) (b n : ℕ) → data-from e b n ++ sealed (data-block e (b + n)) ≡ data-from e b (suc n)
-data-snoc e b zero = let h : b + 0 ≡ b = omega arith in ap (λ k. sealed (data-block e k)) h ∙ sym (append-nil (sealed (data-block e b)))
-data-snoc e b (suc n) =
+data-snoc : (version : ℕ) (e : ℕ → ℕ) (b n : ℕ) → data-from version e b n ++ sealed version (data-block e (b + n)) ≡ data-from version e b (suc n)
+data-snoc version e b zero = let h : b + 0 ≡ b = omega arith in ap (λ k. sealed version (data-block e k)) h ∙ sym (append-nil (sealed version (data-block e b)))
+data-snoc version e b (suc n) =
     let h : b + suc n ≡ suc b + n = omega arith in
-    append-assoc (sealed (data-block e b)) (data-from e (suc b) n) (sealed (data-block e (b + suc n)))
-    ∙ ap (λ l. sealed (data-block e b) ++ l) (ap (λ k. data-from e (suc b) n ++ sealed (data-block e k)) h ∙ data-snoc e (suc b) n)
+    append-assoc (sealed version (data-block e b)) (data-from version e (suc b) n) (sealed version (data-block e (b + suc n)))
+    ∙ ap (λ l. sealed version (data-block e b) ++ l) (ap (λ k. data-from version e (suc b) n ++ sealed version (data-block e k)) h ∙ data-snoc version e (suc b) n)
 
 -- one data block more
-pub data-more : (e : ℕ → ℕ) (n : ℕ) → data-from e 0 n ++ sealed (data-block e n) ≡ data-from e 0 (n + 1)
-data-more e n =
+pub data-more : (version : ℕ) (e : ℕ → ℕ) (n : ℕ) → data-from version e 0 n ++ sealed version (data-block e n) ≡ data-from version e 0 (n + 1)
+data-more version e n =
     let z : n ≡ 0 + n = omega arith in
     let s : suc n ≡ n + 1 = omega arith in
-    ap (λ k. data-from e 0 n ++ sealed (data-block e k)) z ∙ data-snoc e 0 n ∙ ap (data-from e 0) s
+    ap (λ k. data-from version e 0 n ++ sealed version (data-block e k)) z ∙ data-snoc version e 0 n ∙ ap (data-from version e 0) s
 
 -- .. put behind those before it
-pub put-more : (e : ℕ → ℕ) (b : ℕ) (d : List ℕ) {file file′ : List ℕ} → file′ ≡ sets file (512 * suc b) (sealed (data-block e b)) →
-    file ≡ sets d 512 (data-from e 0 b) → file′ ≡ sets d 512 (data-from e 0 (b + 1))
-put-more e b d p i =
+pub put-more : (version : ℕ) (e : ℕ → ℕ) (b : ℕ) (d : List ℕ) {file file′ : List ℕ} → file′ ≡ sets file (512 * suc b) (sealed version (data-block e b)) →
+    file ≡ sets d 512 (data-from version e 0 b) → file′ ≡ sets d 512 (data-from version e 0 (b + 1))
+put-more version e b d p i =
     p
-    ∙ ap (λ x. sets x (512 * suc b) (sealed (data-block e b))) i
-    ∙ sets-append d (data-from e 0 b) (sealed (data-block e b)) 512 (512 * suc b) (omega (arith, length-data b e 0))
-    ∙ ap (sets d 512) (data-more e b)
+    ∙ ap (λ x. sets x (512 * suc b) (sealed version (data-block e b))) i
+    ∙ sets-append d (data-from version e 0 b) (sealed version (data-block e b)) 512 (512 * suc b) (omega (arith, length-data version b e 0))
+    ∙ ap (sets d 512) (data-more version e b)
 
 -- a file is as long as it was
 pub put-long : (at k : ℕ) (file w : List ℕ) {file′ : List ℕ} → file′ ≡ sets file at w → length file ≡ k → length file′ ≡ k

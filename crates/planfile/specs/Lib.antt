@@ -1,3 +1,4 @@
--- The plan file of document 01: what the reader and the writer promise.
+-- Plan files: what the reader and the writer promise, and what demand 2 says of both.
 pub mod Reading
 pub mod Writing
+pub mod Sentence

@@ -1,10 +1,10 @@
 -- What the reader answers. Assumes nothing.
-use mathlib.Core.Bool.{Bool, false, not, _||_}
+use mathlib.Core.Bool.{Bool}
 use mathlib.Core.Option.{Option, none, some}
 use mathlib.Core.List.{List, [], _∷_, _++_}
 use Prim.Native.Nat.{ℕ, zero, suc, _*_, _-_, _/_}
 use lib.Dec.{eqb, ltb}
-use lib.ListN.{length, getD, drop, replicate}
+use lib.ListN.{length, drop, replicate}
 use Rattle.rules.specs.declared.Faults.{Faults}
 use Rattle.blocks.specs.Sizes.{first-run, last-run, block-size, block-entries}
 use Rattle.tables.specs.declared.refusal.Refusal.{Refusal}
@@ -12,10 +12,13 @@ use Rattle.tables.specs.declared.refusal.Refusal.the-variants as refusal
 use Rattle.tables.specs.Refusals.{Reply, refused, answered}
 use Rattle.checks.specs.Checks.{first-refusal, or-answer, first-from, when, found}
 use Rattle.rules.specs.declared.Fields.{Fields}
+use Rattle.planfile.specs.declared.read.PlanRead.{PlanRead}
 use Rattle.planfile.specs.declared.read.ReadAnswer.{ReadAnswer}
 use Rattle.planfile.specs.declared.read.ReadAnswer.the-variants.{Read, Refused}
 use Rattle.bytes.specs.Bytes.{part, number-at}
-use Rattle.blocks.specs.File.{letters, entry-at, other-length}
+use Rattle.blocks.specs.Differ.{differ}
+use Rattle.blocks.specs.Letters.{no-version, version-of}
+use Rattle.blocks.specs.File.{entry-at, other-length}
 use Rattle.tables.specs.Law.{allows, law-out}
 use Rattle.rules.specs.Rules.{header-rules}
 use Rattle.entries.specs.Entries.{entry-broken}
@@ -37,14 +40,9 @@ fields-of file = record {
   floor = record { 0 = number-at 44 4 file };
 }
 
--- some byte is not the one that should stand there
-abbrev pub differ : List ℕ → List ℕ → Bool
-differ [] t = false
-differ (a ∷ s) t = not (eqb a (getD t 0 0)) || differ s (drop 1 t)
-
 unfoldable pub faults-of : List ℕ → Faults
 faults-of file = record {
-  letters = differ letters (part 4 4 file);
+  letters = eqb (version-of file) no-version;
   length = other-length (length file) (number-at 8 2 file);
   run_13 = differ (replicate first-run 0) (part 13 first-run file);
   run_48 = differ (replicate last-run 0) (part 48 last-run file);
@@ -87,13 +85,18 @@ reader-checks file room = reader-checks-under (law-out (fields-of file .law)) (a
 abbrev pub read-refusal : List ℕ → ℕ → Option Refusal
 read-refusal file room = read-refusal-under (law-out (fields-of file .law)) (allows (fields-of file .law)) file room
 
--- scans, settings, law, kind, budget, n, d, rate, distortion, peak, floor
-abbrev pub field-values : Fields → List ℕ
-field-values f =
-    f .scans ∷ f .settings ∷ f .law ∷ f .kind ∷ f .budget ∷ f .n ∷ f .d ∷ f .rate .0 ∷ f .distortion .0 ∷ f .peak ∷ f .floor .0 ∷ []
+-- what a file that is read says: the fields of its plan, and "the reader says which it was", QPL1 or QPL2
+abbrev pub plan-read : List ℕ → PlanRead
+plan-read file = record { fields = fields-of file; version = version-of file }
+
+-- scans, settings, law, kind, budget, n, d, rate, distortion, peak, floor, version
+abbrev pub read-values : PlanRead → List ℕ
+read-values p =
+    let f = p .fields in
+    f .scans ∷ f .settings ∷ f .law ∷ f .kind ∷ f .budget ∷ f .n ∷ f .d ∷ f .rate .0 ∷ f .distortion .0 ∷ f .peak ∷ f .floor .0 ∷ p .version ∷ []
 
 unfoldable pub read-of : List ℕ → ℕ → Reply
-read-of file room = or-answer (read-refusal file room) (field-values (fields-of file))
+read-of file room = or-answer (read-refusal file room) (read-values (plan-read file))
 
 -- the first n entries of a file
 abbrev pub entries : (ℕ → ℕ) → ℕ → ℕ → List ℕ
@@ -107,5 +110,5 @@ settings-after (some r) file settings = settings
 
 -- the number and values of the reader's answer
 abbrev pub read-reply : ReadAnswer → Reply
-read-reply (Read f) = answered (field-values f)
+read-reply (Read p) = answered (read-values p)
 read-reply (Refused r) = refused r

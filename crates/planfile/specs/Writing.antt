@@ -13,6 +13,7 @@ use Rattle.checks.specs.Checks.{first-refusal, or-answer, first-from, when, fou
 use Rattle.rules.specs.declared.Fields.{Fields}
 use Rattle.planfile.specs.declared.write.WriteAnswer.{WriteAnswer}
 use Rattle.planfile.specs.declared.write.WriteAnswer.the-variants.{Written, Refused}
+use Rattle.blocks.specs.Letters.{qpl2}
 use Rattle.blocks.specs.File.{file-of, file-length}
 use Rattle.tables.specs.Law.{allows, law-out}
 use Rattle.rules.specs.Rules.{header-rules}
@@ -47,9 +48,9 @@ write-refusal f settings room = write-refusal-under (law-out (f .law)) (allows (
 unfoldable pub write-of : Fields → List ℕ → ℕ → Reply
 write-of f settings room = or-answer (write-refusal f settings room) (file-length (f .scans) ∷ [])
 
--- "replaces exactly the first 1,024 or 1,536 bytes of a lent buffer"; "A refused write changes no byte."
+-- "replaces exactly the first 1,024 or 1,536 bytes of a lent buffer"; "the writer writes only QPL2"; "A refused write changes no byte."
 abbrev pub file-after : Option Refusal → Fields → List ℕ → List ℕ → List ℕ
-file-after none f settings file = file-of f settings ++ drop (file-length (f .scans)) file
+file-after none f settings file = file-of qpl2 f settings ++ drop (file-length (f .scans)) file
 file-after (some r) f settings file = file
 
 -- the number and values of the writer's answer: the length of the file

@@ -1,5 +1,7 @@
 // Block 0 as it is read: its fields and its faults.
 ghost use Rattle.blocks.specs.Sizes.{«block-size»};
+use blocks::letters::NO_VERSION;
+use blocks::letters::version_of;
 use blocks::sizes::ENTRIES;
 use blocks::sizes::FIRST_RUN;
 use blocks::sizes::LAST_RUN;
@@ -19,8 +21,9 @@ ghost use mathlib.Core.Path.{_≡_};
 ghost use Prim.Native.Nat.{_+_, _≤_};
 ghost use lib.ListN.{length, replicate};
 ghost use Rattle.bytes.specs.Bytes.{part, «number-at»};
-ghost use Rattle.blocks.specs.File.{letters, «other-length»};
-ghost use Rattle.planfile.specs.Reading.{differ, «fields-of», «faults-of», «broken-field»};
+ghost use Rattle.blocks.specs.Differ.{differ};
+ghost use Rattle.blocks.specs.File.{«other-length»};
+ghost use Rattle.planfile.specs.Reading.{«fields-of», «faults-of», «broken-field»};
 ghost use Rattle.checks.specs.Stages.{ended};
 
 pub fn fields(file: &[u8]) -> Fields
@@ -53,21 +56,6 @@ pub fn fields(file: &[u8]) -> Fields
     }
 }
 
-fn other_letters(file: &[u8]) -> bool
-    requires { ⌜ block-size ≤ length (now file) ⌝ }
-    ensures { λ r. ⌜ r ≡ differ letters (part 4 4 (now (file .entry))) ⌝ }
-{
-    let fixed = b"QPL1";
-    let mut i = 0;
-    while i < 4 {
-        if file[4 + i] != fixed[i] {
-            return true;
-        }
-        i += 1;
-    }
-    false
-}
-
 // Is one of the k bytes from `at` on not zero?
 fn not_zero(file: &[u8], at: usize, k: usize) -> bool
     requires { ⌜ at + k ≤ length (now file) ⌝ }
@@ -97,7 +85,7 @@ fn faults(file: &[u8], scans: u64) -> Faults
     requires { ⌜ (block-size ≤ length (now file)) × (scans ≡ number-at 8 2 (now file)) ⌝ }
     ensures { λ r. ⌜ r ≡ faults-of (now (file .entry)) ⌝ }
 {
-    let letters = other_letters(file);
+    let letters = version_of(file) == NO_VERSION;
     let length = wrong_length(file.len(), scans);
     let run_13 = not_zero(file, 13, FIRST_RUN);
     let run_48 = not_zero(file, 48, LAST_RUN);

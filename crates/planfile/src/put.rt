@@ -1,7 +1,8 @@
-// A plan file as it is written: block 0, then the data blocks.
+// A plan file as it is written, in QPL2: block 0, then the data blocks.
 ghost use Rattle.blocks.specs.BlockCheck.{«check-of»};
 ghost use Rattle.blocks.specs.Sizes.{«block-size», «body-size», «block-entries», «block-pairs»};
 use blocks::check::check_of;
+use blocks::letters::QPL2;
 use blocks::packed::put;
 use blocks::sizes::BLOCK;
 use blocks::sizes::BODY;
@@ -20,14 +21,15 @@ ghost use Prim.Native.Nat.{ℕ, suc, _+_, _*_, _≤_, _<_};
 ghost use lib.ListN.{length, getD};
 ghost use lib.Seq.{sets};
 ghost use Rattle.bytes.specs.Bytes.{le, part};
-ghost use Rattle.blocks.specs.File.{letters, sealed, header, pairs, «entry-of», «data-block»};
+ghost use Rattle.blocks.specs.Letters.{qpl2, letters};
+ghost use Rattle.blocks.specs.File.{sealed, header, pairs, «entry-of», «data-block»};
 
 // The four letters, from a fixed byte string.
 fn put_letters(file: &mut [u8])
     requires { ⌜ 8 ≤ length (now file) ⌝ }
-    ensures { λ _. ⌜ now (file .exit) ≡ sets (now (file .entry)) 4 letters ⌝ }
+    ensures { λ _. ⌜ now (file .exit) ≡ sets (now (file .entry)) 4 (letters qpl2) ⌝ }
 {
-    let fixed = b"QPL1";
+    let fixed = b"QPL2";
     let mut i = 0;
     while i < 4 {
         file[4 + i] = fixed[i];
@@ -36,18 +38,18 @@ fn put_letters(file: &mut [u8])
 }
 
 // The check of a block's bytes goes to its last four.
-fn seal(file: &mut [u8], at: usize)
+fn seal(version: u64, file: &mut [u8], at: usize)
     requires { ⌜ (at ≤ 1024) × (at + block-size ≤ length (now file)) ⌝ }
-    ensures { λ _. ⌜ now (file .exit) ≡ sets (now (file .entry)) (at + body-size) (le 4 (check-of (part at body-size (now (file .entry))))) ⌝ }
+    ensures { λ _. ⌜ now (file .exit) ≡ sets (now (file .entry)) (at + body-size) (le 4 (check-of version (part at body-size (now (file .entry))))) ⌝ }
 {
-    let check = check_of(file, at);
+    let check = check_of(version, file, at);
     put_four(file, at + BODY, check);
 }
 
 // Block 0, field after field.
 pub fn put_header(file: &mut [u8], f: Fields)
     requires { ⌜ block-size ≤ length (now file) ⌝ }
-    ensures { λ _. ⌜ now (file .exit) ≡ sets (now (file .entry)) 0 (sealed (header f)) ⌝ }
+    ensures { λ _. ⌜ now (file .exit) ≡ sets (now (file .entry)) 0 (sealed qpl2 (header qpl2 f)) ⌝ }
 {
     put_four(file, 0, 0);
     put_letters(file);
@@ -64,7 +66,7 @@ pub fn put_header(file: &mut [u8], f: Fields)
     put_four(file, 40, f.peak);
     put_four(file, 44, f.floor.0);
     put_zeros(file, 48, LAST_RUN);
-    seal(file, 0);
+    seal(QPL2, file, 0);
 }
 
 // The entries of data block b, counted from 0: the fillers first, and then the settings by entry number.
@@ -85,10 +87,10 @@ fn put_entries(file: &mut [u8], b: usize, settings: &[u8], scans: usize)
 pub fn put_data(file: &mut [u8], b: usize, settings: &[u8], scans: usize)
     requires { ⌜ (b < 2) × (block-size * suc b + block-size ≤ length (now file)) ⌝ }
     requires { ⌜ (scans ≤ length (now settings)) × ((j : ℕ) → j < scans → getD (now settings) j 0 < 16) ⌝ }
-    ensures { λ _. ⌜ now (file .exit) ≡ sets (now (file .entry)) (block-size * suc b) (sealed (data-block (entry-of scans (now (settings .entry))) b)) ⌝ }
+    ensures { λ _. ⌜ now (file .exit) ≡ sets (now (file .entry)) (block-size * suc b) (sealed qpl2 (data-block (entry-of scans (now (settings .entry))) b)) ⌝ }
 {
     let at = BLOCK * (b + 1);
     put_four(file, at, b as u64 + 1);
     put_entries(file, b, settings, scans);
-    seal(file, at);
+    seal(QPL2, file, at);
 }

@@ -2,6 +2,7 @@
 ghost use Rattle.blocks.specs.Sizes.{«block-size», «block-entries»};
 use crate::header::fields;
 use crate::header::header;
+use blocks::letters::version_of;
 use blocks::packed::get;
 use blocks::sound::blocks;
 use blocks::sound::size;
@@ -18,8 +19,14 @@ ghost use Rattle.blocks.specs.File.{«entry-at»};
 ghost use Rattle.checks.specs.Stages.{ended};
 ghost use Rattle.planfile.specs.Reading.{entries, «read-of», «read-reply», «read-refusal», «settings-after»};
 
+// What a file says: the fields of its plan, and its version, which is none of them.
+pub struct PlanRead {
+    pub fields: Fields,
+    pub version: u64,
+}
+
 pub enum ReadAnswer {
-    Read(Fields),
+    Read(PlanRead),
     Refused(Refusal),
 }
 
@@ -70,9 +77,10 @@ pub fn read_plan(file: &[u8], settings: &mut [u8]) -> ReadAnswer
 {
     let staged = stages(file, settings.len() as u64);
     let Stage::Stopped(refusal) = staged else {
-        let f = fields(file);
-        hand_over(file, settings, f.scans as usize);
-        return ReadAnswer::Read(f);
+        let fields = fields(file);
+        hand_over(file, settings, fields.scans as usize);
+        let version = version_of(file);
+        return ReadAnswer::Read(PlanRead { fields, version });
     };
     ReadAnswer::Refused(refusal)
 }

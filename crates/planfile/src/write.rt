@@ -17,6 +17,7 @@ ghost use Prim.Native.Nat.{ℕ, suc, _*_, _≤_, _<_};
 ghost use lib.ListN.{length, getD};
 ghost use lib.Seq.{sets};
 ghost use Rattle.checks.specs.Stages.{ended};
+ghost use Rattle.blocks.specs.Letters.{qpl2};
 ghost use Rattle.blocks.specs.File.{«data-blocks», «file-length», «file-of»};
 ghost use Rattle.planfile.specs.Writing.{«write-short», «write-of», «write-reply», «write-refusal», «file-after»};
 
@@ -58,7 +59,7 @@ fn too_short(scans: u64, settings: u64, room: u64) -> bool
 fn put_file(file: &mut [u8], f: Fields, settings: &[u8]) -> u64
     requires { ⌜ (f .scans ≤ most-scans) × (file-length (f .scans) ≤ length (now file)) ⌝ }
     requires { ⌜ (f .scans ≤ length (now settings)) × ((j : ℕ) → j < f .scans → getD (now settings) j 0 < 16) ⌝ }
-    ensures { λ r. ⌜ (r ≡ file-length (f .scans)) × (now (file .exit) ≡ sets (now (file .entry)) 0 (file-of f (now (settings .entry)))) ⌝ }
+    ensures { λ r. ⌜ (r ≡ file-length (f .scans)) × (now (file .exit) ≡ sets (now (file .entry)) 0 (file-of qpl2 f (now (settings .entry)))) ⌝ }
 {
     put_header(file, f);
     let blocks = data_blocks(f.scans);

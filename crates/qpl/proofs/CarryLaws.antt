@@ -27,10 +27,11 @@ use Rattle.laws.proofs.Tests.{neither}
 use Rattle.tables.proofs.CellLaws.{cells-small}
 use Rattle.tables.proofs.RefusalLaws.{never-zero}
 use Rattle.rules.specs.declared.Fields.{Fields}
+use Rattle.blocks.specs.Letters.{version-of}
 use Rattle.blocks.specs.File.{entry-at, file-length}
 use Rattle.entries.specs.Entries.{entry-broken}
 use Rattle.blocks.specs.Blocks.{length-out, block-broken, bad-block}
-use Rattle.planfile.specs.Reading.{bad-entry-under, broken-field-under, read-refusal-under, bad-entry, broken-field, fields-of, faults-of, read-refusal, read-of, field-values}
+use Rattle.planfile.specs.Reading.{bad-entry-under, broken-field-under, read-refusal-under, bad-entry, broken-field, fields-of, faults-of, read-refusal, read-of, plan-read, read-values}
 use Rattle.planfile.specs.Writing.{no-faults, write-short, write-refusal-under, write-refusal, write-of}
 use Rattle.checks.proofs.CheckLaws.{none-else, none-when}
 use Rattle.planfile.proofs.ReadLaws.{two-lengths}
@@ -38,7 +39,7 @@ use Rattle.planfile.proofs.WriteLaws.{scans-inside}
 use Rattle.planfile.proofs.Accepted.{passed}
 use Rattle.promise.specs.Promise.{Promise, unsound, no-sequence, none-within, planned}
 use Rattle.telling.specs.Told.{lent, word-of}
-use Rattle.qpl.specs.Surface.{room-told}
+use Rattle.qpl.specs.Surface.{room-told, read-bytes}
 use Rattle.telling.specs.Parts.{Tellable}
 use Rattle.telling.proofs.AnswerLaws.{tellable-refusal, tellable-as}
 
@@ -63,7 +64,7 @@ read-light file room =
     gives-else Little (when (length-out (length file)) refusal.FileLength) _ (gives-when Little (length-out (length file)) refusal.FileLength (omega arith)) (λ e.
     let n = two-lengths (length file) (none-when (length-out (length file)) refusal.FileLength e) in
     gives-else Little (found refusal.Block (bad-block file)) _
-    (gives-found Little (length file / 512) refusal.Block (block-broken file) 0 (λ i h. omega arith)) (λ f.
+    (gives-found Little (length file / 512) refusal.Block (block-broken (version-of file) file) 0 (λ i h. omega arith)) (λ f.
     gives-else Little (broken-field file) _ (rules-light (law-out (fields-of file .law)) (faults-of file) (fields-of file)) (λ g.
     gives-else Little (when (ltb room (fields-of file .scans)) refusal.Buffer) _
     (gives-when Little (ltb room (fields-of file .scans)) refusal.Buffer (omega arith)) (λ h.
@@ -107,13 +108,13 @@ lent-some need answer room = of (ltb answer need) (ltb-false answer need)
     of true f h = absurd (omega arith)
     of false f h = f refl
 
-pub read-tellable : (file : List ℕ) (answer room : ℕ) → Tellable (read-of file (lent 88 answer room)) answer
+pub read-tellable : (file : List ℕ) (answer room : ℕ) → Tellable (read-of file (lent read-bytes answer room)) answer
 unfolding read-of
-read-tellable file answer room = or-tellable (read-refusal file (lent 88 answer room)) (field-values (fields-of file)) answer
-    (read-light file (lent 88 answer room)) (λ e.
-    let p = passed file (lent 88 answer room) e in
+read-tellable file answer room = or-tellable (read-refusal file (lent read-bytes answer room)) (read-values (plan-read file)) answer
+    (read-light file (lent read-bytes answer room)) (λ e.
+    let p = passed file (lent read-bytes answer room) e in
     let n = in-range {most = most-scans} {x = fields-of file .scans} (neither _ _ (p .rules .scans) .0) in
-    lent-some 88 answer room (omega (arith, p .enough, n .0)))
+    lent-some read-bytes answer room (omega (arith, p .enough, n .0)))
 
 -- a planning call whose answer needs so many bytes
 pub promise-tellable : {further : Option Refusal} {a : Asked} {within : List ℕ → Type 0} {Plan : List ℕ → List ℕ → Type 0}

@@ -27,7 +27,7 @@ use Rattle.rules.proofs.FieldLaws.{rules-hold}
 use Rattle.promise.specs.Promise.{CeilingPromise, MultiplierPromise, MinmaxPromise, AveragePromise, plan-reply, minmax-reply, average-reply}
 use Rattle.promise.proofs.Unique.{ceiling-settled, multiplier-settled, minmax-settled, average-settled}
 use Rattle.telling.specs.Told.{word-of, Told, lent}
-use Rattle.qpl.specs.Surface.{Tells}
+use Rattle.qpl.specs.Surface.{Tells, read-bytes}
 use Rattle.telling.proofs.AnswerLaws.{number-small, word-refused}
 
 -- what is told of equal replies is the same
@@ -84,8 +84,8 @@ after-stage none x y h = h refl
 after-stage (some r) x y h = refl
 
 -- The reader then gives the first of 11, 12, 13, and else 6: 14 is never reached, and nothing is read.
-pub short-answer-read : (file : List ℕ) (answer room : ℕ) → ltb answer 88 ≡ true →
-    read-refusal file (lent 88 answer room)
+pub short-answer-read : (file : List ℕ) (answer room : ℕ) → ltb answer read-bytes ≡ true →
+    read-refusal file (lent read-bytes answer room)
     ≡ first-refusal (when (length-out (length file)) refusal.FileLength ∷ found refusal.Block (bad-block file) ∷ broken-field file ∷ some refusal.Buffer ∷ [])
 unfolding read-refusal-under broken-field-under
 short-answer-read file answer room short = rw short

@@ -3,7 +3,7 @@
 use mathlib.Core.Bool.{cond, _&&_}
 use mathlib.Core.Option.{Option}
 use mathlib.Core.List.{List, [], _∷_, _++_}
-use Prim.Native.Nat.{ℕ}
+use Prim.Native.Nat.{ℕ, _*_}
 use lib.Dec.{eqb, ltb}
 use Rattle.tables.specs.declared.refusal.Refusal.{Refusal}
 use Rattle.tables.specs.declared.refusal.Refusal.the-variants as refusal
@@ -13,6 +13,7 @@ use Rattle.rules.specs.declared.Fields.{Fields}
 use Rattle.checks.specs.Checks.{when, first-refusal}
 use Rattle.exports.specs.Export.{export-checks}
 use Rattle.telling.specs.Told.{Told}
+use Rattle.telling.specs.Parts.{most-values}
 
 -- The room question: the answer buffer is the last thing asked for.
 unfoldable pub room-told : (C N Q answer : ℕ) → Reply
@@ -21,6 +22,10 @@ room-told C N Q answer = cond (eqb (room-of C N Q .number) 0 && ltb answer 24) (
 -- The export is refused as its checks say: "1, 2, 5, 7, then 6". The answer buffer is part of 6.
 unfoldable pub export-told : (N Q : ℕ) (rates distortions : List ℕ) (room answer : ℕ) → Option Refusal
 export-told N Q rates distortions room answer = first-refusal (export-checks N Q rates distortions room ++ (when (ltb answer 8) refusal.Buffer ∷ []))
+
+-- what the reader's answer takes: its values, of eight bytes each
+abbrev pub read-bytes : ℕ
+read-bytes = 8 * most-values
 
 -- A planning call: some answer keeps the promise and is told.
 pub record Tells {A : Type 0} (reply-of : A → Reply) (Kept : A → Type 0) (answer : List ℕ) (word : ℕ) (answer′ : List ℕ) : Type 0 where

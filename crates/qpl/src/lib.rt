@@ -39,12 +39,15 @@ ghost use Rattle.imports.specs.Import.{«import-of»};
 ghost use Rattle.exports.specs.Export.{«export-text», «text-after»};
 ghost use Rattle.planfile.specs.Writing.{«write-of», «write-refusal», «file-after»};
 ghost use Rattle.telling.specs.Told.{Told, «word-of», lent as Lent};
-ghost use Rattle.telling.specs.Parts.{«answer-reply»};
-ghost use Rattle.qpl.specs.Surface.{Tells, «room-told», «export-told», «fields-told»};
+ghost use Rattle.telling.specs.Parts.{«most-values», «answer-reply»};
+ghost use Rattle.qpl.specs.Surface.{Tells, «read-bytes», «room-told», «export-told», «fields-told»};
+
+// What the reader's answer takes, the longest.
+const READ_BYTES: usize = 96;
 
 // The room question, with the answer buffer as the last thing asked for.
 fn room_told(channels: u64, scans: u64, settings: u64, answer: usize) -> Answer
-    ensures { λ r. ⌜ (answer-reply r ≡ room-told channels scans settings answer) × (r .count ≤ 11) ⌝ }
+    ensures { λ r. ⌜ (answer-reply r ≡ room-told channels scans settings answer) × (r .count ≤ most-values) ⌝ }
 {
     let room = room_answer(room_for(channels, scans, settings));
     let asked = room.ended;
@@ -98,7 +101,7 @@ fn export_told(
     text: &mut [u8],
     answer: usize,
 ) -> Answer
-    ensures { λ r. ⌜ (answer-reply r ≡ or-answer (export-told scans settings (now (rates .entry)) (now (distortions .entry)) (length (now (text .entry))) answer) (length (export-text scans settings (now (rates .entry)) (now (distortions .entry))) ∷ [])) × (r .count ≤ 11) ⌝ }
+    ensures { λ r. ⌜ (answer-reply r ≡ or-answer (export-told scans settings (now (rates .entry)) (now (distortions .entry)) (length (now (text .entry))) answer) (length (export-text scans settings (now (rates .entry)) (now (distortions .entry))) ∷ [])) × (r .count ≤ most-values) ⌝ }
     ensures { λ _. ⌜ now (text .exit) ≡ text-after (export-told scans settings (now (rates .entry)) (now (distortions .entry)) (length (now (text .entry))) answer) scans settings (now (rates .entry)) (now (distortions .entry)) (now (text .entry)) ⌝ }
 {
     let room = lent(8, answer, text.len());
@@ -130,13 +133,13 @@ pub extern "C" fn qpl_export(
     tell(told, answer)
 }
 
-// scans, settings, law, kind, budget, n, d, rate, distortion, peak, floor
+// scans, settings, law, kind, budget, n, d, rate, distortion, peak, floor, version
 #[no_mangle]
 pub extern "C" fn qpl_read(file: &[u8], settings: &mut [u8], answer: &mut [u8]) -> u64
-    ensures { λ r. ⌜ Told (read-of (now (file .entry)) (Lent 88 (length (now (answer .entry))) (length (now (settings .entry))))) (now (answer .entry)) r (now (answer .exit)) ⌝ }
-    ensures { λ _. ⌜ now (settings .exit) ≡ settings-after (read-refusal (now (file .entry)) (Lent 88 (length (now (answer .entry))) (length (now (settings .entry))))) (now (file .entry)) (now (settings .entry)) ⌝ }
+    ensures { λ r. ⌜ Told (read-of (now (file .entry)) (Lent read-bytes (length (now (answer .entry))) (length (now (settings .entry))))) (now (answer .entry)) r (now (answer .exit)) ⌝ }
+    ensures { λ _. ⌜ now (settings .exit) ≡ settings-after (read-refusal (now (file .entry)) (Lent read-bytes (length (now (answer .entry))) (length (now (settings .entry))))) (now (file .entry)) (now (settings .entry)) ⌝ }
 {
-    let room = lent(88, answer.len(), settings.len());
+    let room = lent(READ_BYTES, answer.len(), settings.len());
     let told = read_plan(file, &mut settings[..room]);
     tell(read_answer(told), answer)
 }

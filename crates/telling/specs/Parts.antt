@@ -7,6 +7,10 @@ use Rattle.checks.specs.Checks.{or-answer}
 use Rattle.checks.specs.Stages.{ended}
 use Rattle.telling.specs.declared.Answer.{Answer}
 
+-- as many values as the longest answer has, that of the reader
+abbrev pub most-values : ℕ
+most-values = 12
+
 -- What can be told: an answer whose values the buffer holds, or a refusal that carries less than 2 ^ 32.
 pub record Tellable (reply : Reply) (room : ℕ) : Type 0 where
   pub holds : reply .number ≡ 0 → 8 * length (reply .values) ≤ room

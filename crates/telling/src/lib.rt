@@ -20,13 +20,13 @@ ghost use Rattle.promise.specs.Promise.{«plan-reply», «minmax-reply», «ave
 ghost use Rattle.room.specs.Room.{«room-reply»};
 ghost use Rattle.exports.specs.Export.{«export-reply»};
 ghost use Rattle.telling.specs.Told.{eights, Told, «word-of», lent as Lent};
-ghost use Rattle.telling.specs.Parts.{Tellable, «answer-reply»};
+ghost use Rattle.telling.specs.Parts.{«most-values», Tellable, «answer-reply»};
 
 // How a call ended, and its values: the first `count` are told.
 pub struct Answer {
     pub ended: Stage,
     // as many as the longest answer has, that of the reader
-    pub values: [u64; 11],
+    pub values: [u64; 12],
     pub count: usize,
 }
 
@@ -49,8 +49,8 @@ pub fn word(r: Refusal) -> u64
 }
 
 // The first `count` values, one behind the other.
-fn put_values(values: [u64; 11], count: usize, answer: &mut [u8])
-    requires { ⌜ (count ≤ 11) × (8 * count ≤ length (now answer)) ⌝ }
+fn put_values(values: [u64; 12], count: usize, answer: &mut [u8])
+    requires { ⌜ (count ≤ most-values) × (8 * count ≤ length (now answer)) ⌝ }
     ensures { λ _. ⌜ now (answer .exit) ≡ sets (now (answer .entry)) 0 (eights (take count values)) ⌝ }
 {
     let mut i = 0;
@@ -62,7 +62,7 @@ fn put_values(values: [u64; 11], count: usize, answer: &mut [u8])
 
 // What goes back of an answer: 0 with its values in the buffer, or its refusal, which leaves the buffer as it was.
 pub fn tell(told: Answer, answer: &mut [u8]) -> u64
-    requires { ⌜ (told .count ≤ 11) × Tellable (answer-reply told) (length (now answer)) ⌝ }
+    requires { ⌜ (told .count ≤ most-values) × Tellable (answer-reply told) (length (now answer)) ⌝ }
     ensures { λ r. ⌜ Told (answer-reply told) (now (answer .entry)) r (now (answer .exit)) ⌝ }
 {
     let ended = told.ended;
@@ -77,9 +77,9 @@ pub fn tell(told: Answer, answer: &mut [u8]) -> u64
 }
 
 // A call that answers.
-fn passed(values: [u64; 11], count: usize) -> Answer
-    requires { ⌜ count ≤ 11 ⌝ }
-    ensures { λ r. ⌜ (answer-reply r ≡ answered (take count values)) × (r .count ≤ 11) ⌝ }
+fn passed(values: [u64; 12], count: usize) -> Answer
+    requires { ⌜ count ≤ most-values ⌝ }
+    ensures { λ r. ⌜ (answer-reply r ≡ answered (take count values)) × (r .count ≤ most-values) ⌝ }
 {
     Answer {
         ended: Stage::Passed,
@@ -90,22 +90,22 @@ fn passed(values: [u64; 11], count: usize) -> Answer
 
 // A call that refuses: it has no values.
 fn stopped(why: Refusal) -> Answer
-    ensures { λ r. ⌜ (answer-reply r ≡ refused why) × (r .count ≤ 11) ⌝ }
+    ensures { λ r. ⌜ (answer-reply r ≡ refused why) × (r .count ≤ most-values) ⌝ }
 {
     Answer {
         ended: Stage::Stopped(why),
-        values: [0; 11],
+        values: [0; 12],
         count: 0,
     }
 }
 
 // cells, bytes, scratch
 pub fn room_answer(told: RoomAnswer) -> Answer
-    ensures { λ r. ⌜ (answer-reply r ≡ room-reply told) × (r .count ≤ 11) ⌝ }
+    ensures { λ r. ⌜ (answer-reply r ≡ room-reply told) × (r .count ≤ most-values) ⌝ }
 {
     match told {
         RoomAnswer::Given(g) => {
-            let values = [g.cells, g.bytes, g.scratch, 0, 0, 0, 0, 0, 0, 0, 0];
+            let values = [g.cells, g.bytes, g.scratch, 0, 0, 0, 0, 0, 0, 0, 0, 0];
             passed(values, 3)
         }
         RoomAnswer::Refused(r) => stopped(r),
@@ -114,11 +114,11 @@ pub fn room_answer(told: RoomAnswer) -> Answer
 
 // rate, distortion, peak
 pub fn plan_answer(told: PlanAnswer) -> Answer
-    ensures { λ r. ⌜ (answer-reply r ≡ plan-reply told) × (r .count ≤ 11) ⌝ }
+    ensures { λ r. ⌜ (answer-reply r ≡ plan-reply told) × (r .count ≤ most-values) ⌝ }
 {
     match told {
         PlanAnswer::Planned(t) => {
-            let values = [t.rate.0, t.distortion.0, t.peak, 0, 0, 0, 0, 0, 0, 0, 0];
+            let values = [t.rate.0, t.distortion.0, t.peak, 0, 0, 0, 0, 0, 0, 0, 0, 0];
             passed(values, 3)
         }
         PlanAnswer::Refused(r) => stopped(r),
@@ -127,7 +127,7 @@ pub fn plan_answer(told: PlanAnswer) -> Answer
 
 // X, rate, distortion, peak
 pub fn minmax_answer(told: MinmaxAnswer) -> Answer
-    ensures { λ r. ⌜ (answer-reply r ≡ minmax-reply told) × (r .count ≤ 11) ⌝ }
+    ensures { λ r. ⌜ (answer-reply r ≡ minmax-reply told) × (r .count ≤ most-values) ⌝ }
 {
     match told {
         MinmaxAnswer::Planned(m) => {
@@ -136,6 +136,7 @@ pub fn minmax_answer(told: MinmaxAnswer) -> Answer
                 m.totals.rate.0,
                 m.totals.distortion.0,
                 m.totals.peak,
+                0,
                 0,
                 0,
                 0,
@@ -152,7 +153,7 @@ pub fn minmax_answer(told: MinmaxAnswer) -> Answer
 
 // n, d, rate, distortion, peak, floor
 pub fn average_answer(told: AverageAnswer) -> Answer
-    ensures { λ r. ⌜ (answer-reply r ≡ average-reply told) × (r .count ≤ 11) ⌝ }
+    ensures { λ r. ⌜ (answer-reply r ≡ average-reply told) × (r .count ≤ most-values) ⌝ }
 {
     match told {
         AverageAnswer::Planned(a) => {
@@ -168,6 +169,7 @@ pub fn average_answer(told: AverageAnswer) -> Answer
                 0,
                 0,
                 0,
+                0,
             ];
             passed(values, 6)
         }
@@ -177,23 +179,24 @@ pub fn average_answer(told: AverageAnswer) -> Answer
 
 // the length
 pub fn export_answer(told: ExportAnswer) -> Answer
-    ensures { λ r. ⌜ (answer-reply r ≡ export-reply told) × (r .count ≤ 11) ⌝ }
+    ensures { λ r. ⌜ (answer-reply r ≡ export-reply told) × (r .count ≤ most-values) ⌝ }
 {
     match told {
         ExportAnswer::Exported(n) => {
-            let values = [n, 0, 0, 0, 0, 0, 0, 0, 0, 0, 0];
+            let values = [n, 0, 0, 0, 0, 0, 0, 0, 0, 0, 0, 0];
             passed(values, 1)
         }
         ExportAnswer::Refused(r) => stopped(r),
     }
 }
 
-// scans, settings, law, kind, budget, n, d, rate, distortion, peak, floor
+// scans, settings, law, kind, budget, n, d, rate, distortion, peak, floor, version
 pub fn read_answer(told: ReadAnswer) -> Answer
-    ensures { λ r. ⌜ (answer-reply r ≡ read-reply told) × (r .count ≤ 11) ⌝ }
+    ensures { λ r. ⌜ (answer-reply r ≡ read-reply told) × (r .count ≤ most-values) ⌝ }
 {
     match told {
-        ReadAnswer::Read(f) => {
+        ReadAnswer::Read(p) => {
+            let f = p.fields;
             let values = [
                 f.scans,
                 f.settings,
@@ -206,8 +209,9 @@ pub fn read_answer(told: ReadAnswer) -> Answer
                 f.distortion.0,
                 f.peak,
                 f.floor.0,
+                p.version,
             ];
-            passed(values, 11)
+            passed(values, 12)
         }
         ReadAnswer::Refused(r) => stopped(r),
     }

@@ -5,6 +5,7 @@ use lib.Seq.{length-take-le}
 use denote.Ref.{now}
 use Rattle.planfile.specs.Reading.{read-of}
 use Rattle.telling.specs.Told.{lent}
+use Rattle.qpl.specs.Surface.{read-bytes}
 use Rattle.telling.specs.Parts.{answer-reply}
 use Rattle.telling.proofs.AnswerLaws.{tellable-as, told-as}
 use Rattle.qpl.proofs.CarryLaws.{read-tellable}
@@ -16,7 +17,7 @@ use Rattle.qpl.proofs.qpl_read.Tie as tie
 -- what is to be told is what the reader answers over the room that is lent
 said : (c : tie.After-read-answer) →
     let a = c .before .before .before .before .before .before .before .before .before .args in
-    answer-reply (c .read-answer .result) ≡ read-of (now (a .file)) (lent 88 (length (now (a .answer))) (length (now (a .settings))))
+    answer-reply (c .read-answer .result) ≡ read-of (now (a .file)) (lent read-bytes (length (now (a .answer))) (length (now (a .settings))))
 said c =
     let called = c .before .before .before in
     let lends = called .before .before in

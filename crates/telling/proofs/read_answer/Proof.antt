@@ -16,7 +16,7 @@ stopped-requires : tie.Need-stopped-requires
 stopped-requires c κs = search needs
 
 returns : tie.Need-returns
-returns c = rw (c .before .before .told .given .1) (c .passed .ensures)
+returns c = rw (c .before .before .before .told .given .1) (c .passed .ensures)
 
 returns-2 : tie.Need-returns-2
 returns-2 c = rw (c .before .before .told2 .given .1) (c .stopped .ensures)

@@ -1,4 +1,4 @@
--- `blocks::sound::block_wrong` meets its contract: the number, then the sum. Assumes nothing.
+-- `blocks::sound::block_wrong` meets its contract: the number, then the check. Assumes nothing.
 use Rattle.blocks.proofs.BlockLaws.{other-number, own-number}
 use borrow.Author.Needs.{needs}
 use Rattle.blocks.proofs.sound.block_wrong.Statement.{statement}
@@ -13,7 +13,7 @@ four-requires c κs = search needs
 returns : tie.Need-returns
 returns c =
     let a = c .before .before .before .args in
-    other-number (a .file .now) (a .k) (c .before .four .ensures .0) (c .if1 .taken)
+    other-number (a .version) (a .file .now) (a .k) (c .before .four .ensures .0) (c .if1 .taken)
 
 add-four : tie.Need-add-four
 add-four c = search needs
@@ -27,7 +27,7 @@ check-of-requires c κs = search needs
 returns-2 : tie.Need-returns-2
 returns-2 c =
     let a = c .before .before .before .before .before .args in
-    own-number (a .file .now) (a .k) (c .before .before .before .four .ensures .0) (c .before .before .if1 .left) (c .before .four2 .ensures .0) (c .check-of .ensures)
+    own-number (a .version) (a .file .now) (a .k) (c .before .before .before .four .ensures .0) (c .before .before .if1 .left) (c .before .four2 .ensures .0) (c .check-of .ensures)
 
 pub block-wrong-spec : {M : Type 1} → statement M
 block-wrong-spec =

@@ -1,12 +1,17 @@
 -- `planfile::header::faults` meets its contract. Assumes nothing.
+use mathlib.Core.Path.{ap}
+use Prim.Native.Nat.{ℕ}
+use native.Mathlib.Omega.{arith}
+use lib.Dec.{eqb}
 use denote.Ref.{now}
+use Rattle.blocks.specs.Letters.{no-version}
 use Rattle.planfile.proofs.HeaderLaws.{told-faults}
 use borrow.Author.Needs.{needs}
 use Rattle.planfile.proofs.header.faults.Statement.{statement}
 use Rattle.planfile.proofs.header.faults.Tie as tie
 
-other-letters-requires : tie.Need-other-letters-requires
-other-letters-requires c κs = search needs
+version-of-requires : tie.Need-version-of-requires
+version-of-requires c κs = omega arith
 
 wrong-length-requires : tie.Need-wrong-length-requires
 wrong-length-requires c κs = search needs
@@ -20,14 +25,14 @@ not-zero-requires-2 c κs = search needs
 returns : tie.Need-returns
 returns c =
     let a = c .before .before .before .before .before .args in
-    told-faults (now (a .file)) (a .scans) (c .before .before .before .before .before .pre .1) (c .before .before .before .other-letters .ensures)
+    told-faults (now (a .file)) (a .scans) (c .before .before .before .before .before .pre .1) (ap (λ (v : ℕ). eqb v no-version) (c .before .before .before .version-of .ensures))
     (c .before .before .wrong-length .ensures) (c .before .not-zero .ensures) (c .not-zero2 .ensures)
 
 pub faults-spec : {M : Type 1} → statement M
 faults-spec =
     tie.close
     (tie.spec
-    other-letters-requires
+    version-of-requires
     wrong-length-requires
     not-zero-requires
     not-zero-requires-2

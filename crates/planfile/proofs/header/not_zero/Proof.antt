@@ -7,7 +7,7 @@ use denote.Ref.{now}
 use borrow.Author.Count.{below-more}
 use Rattle.bytes.specs.Bytes.{part}
 use Rattle.bytes.proofs.PartLaws.{part-get}
-use Rattle.planfile.proofs.WalkLaws.{differs, no-differs}
+use Rattle.blocks.proofs.DifferLaws.{differs, no-differs}
 use Rattle.planfile.proofs.header.not_zero.Statement.{statement}
 use Rattle.planfile.proofs.header.not_zero.Tie as tie
 

@@ -1,6 +1,7 @@
--- `planfile::put::put_data` meets its contract: number, entries and sum one after the other. Assumes nothing.
+-- `planfile::put::put_data` meets its contract: number, entries and check one after the other. Assumes nothing.
 use native.Mathlib.Omega.{arith}
 use denote.Ref.{now}
+use Rattle.blocks.specs.Letters.{qpl2}
 use Rattle.blocks.specs.File.{entry-of}
 use Rattle.planfile.proofs.PutLaws.{data-stored}
 use borrow.Author.Needs.{needs}
@@ -31,7 +32,7 @@ same-length c = search needs
 returns : tie.Need-returns
 returns c =
     let a = c .before .before .before .before .before .before .before .before .before .before .before .before .before .before .args in
-    data-stored (entry-of (a .scans) (now (a .settings))) (a .b) (now (a .file)) _ _ _ (omega arith)
+    data-stored qpl2 (entry-of (a .scans) (now (a .settings))) (a .b) (now (a .file)) _ _ _ (omega arith)
     (c .before .before .before .before .before .before .before .before .before .before .put-four .ensures)
     (c .before .before .before .before .before .before .put-entries .ensures)
     (c .before .before .seal .ensures)

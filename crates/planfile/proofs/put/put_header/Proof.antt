@@ -1,11 +1,12 @@
--- `planfile::put::put_header` meets its contract: field after field, and their sum. Assumes nothing.
+-- `planfile::put::put_header` meets its contract: field after field, and their check. Assumes nothing.
 use native.Mathlib.Omega.{arith}
 use mathlib.Core.Path.{_≡_}
 use Prim.Native.Nat.{_≤_}
 use lib.ListN.{length}
 use denote.Ref.{now}
+use Rattle.blocks.specs.Letters.{qpl2}
 use Rattle.blocks.specs.File.{header}
-use Rattle.planfile.proofs.PutLaws.{header-stored, with-sum}
+use Rattle.planfile.proofs.PutLaws.{header-stored, with-check}
 use borrow.Author.Needs.{needs}
 use Rattle.planfile.proofs.put.put_header.Statement.{statement}
 use Rattle.planfile.proofs.put.put_header.Tie as tie
@@ -147,8 +148,8 @@ returns c =
     let s = c₁ .before .before .before in
     let d = now (s .args .file) in
     let f = s .args .f in
-    with-sum d (header f) _ _ 0 (omega (arith, s .pre))
-    (header-stored f d _ _ _ _ _ _ _ _ _ _ _ _ _ _ _
+    with-check qpl2 d (header qpl2 f) _ _ 0 (omega (arith, s .pre))
+    (header-stored qpl2 f d _ _ _ _ _ _ _ _ _ _ _ _ _ _ _
     (c₁ .put-four .ensures) (c₂ .put-letters .ensures) (c₃ .put-two .ensures)
     (c₄ .put-one .ensures) (c₅ .put-one2 .ensures) (c₆ .put-one3 .ensures)
     (c₇ .put-zeros .ensures) (c₈ .put-eight .ensures) (c₉ .put-four2 .ensures)

@@ -6,13 +6,13 @@ use native.Mathlib.Numerals.{add-one}
 use lib.ListN.{length, getD, take, set, length-set}
 use lib.Seq.{sets, take-suc, length-take-le}
 use denote.Ref.{now}
-use Rattle.blocks.specs.File.{letters}
+use Rattle.blocks.specs.Letters.{qpl2, letters}
 use Rattle.laws.proofs.Stores.{sets-snoc}
 use Rattle.planfile.proofs.put.put_letters.Statement.{statement}
 use Rattle.planfile.proofs.put.put_letters.Tie as tie
 
 abbrev Inv-loop : tie.InvT-loop
-Inv-loop file₀ fixed i₀ file i = (i ≤ 4) × ((length file ≡ length file₀) × (file ≡ sets file₀ 4 (take i letters)))
+Inv-loop file₀ fixed i₀ file i = (i ≤ 4) × ((length file ≡ length file₀) × (file ≡ sets file₀ 4 (take i (letters qpl2))))
 
 abbrev μ-loop : tie.MeasureT-loop
 μ-loop file₀ fixed i₀ file i = 4 - i
@@ -44,10 +44,10 @@ loop-again c =
       (
         simp length-set (l .inv .1 .0),
         (
-            ap (λ o. set o (4 + l .i) (getD letters (l .i) 0)) (l .inv .1 .1)
-            ∙ sets-snoc d (take (l .i) letters) 4 (4 + l .i) (getD letters (l .i) 0)
-            (ap (λ n. 4 + n) (sym (length-take-le (l .i) letters h)))
-            ∙ ap (sets d 4) (sym (take-suc letters (l .i) 0 (omega arith)) ∙ ap (λ (n : ℕ). take n letters) (sym (add-one (l .i))))
+            ap (λ o. set o (4 + l .i) (getD (letters qpl2) (l .i) 0)) (l .inv .1 .1)
+            ∙ sets-snoc d (take (l .i) (letters qpl2)) 4 (4 + l .i) (getD (letters qpl2) (l .i) 0)
+            (ap (λ n. 4 + n) (sym (length-take-le (l .i) (letters qpl2) h)))
+            ∙ ap (sets d 4) (sym (take-suc (letters qpl2) (l .i) 0 (omega arith)) ∙ ap (λ (n : ℕ). take n (letters qpl2)) (sym (add-one (l .i))))
             ),
       ),
     )
@@ -59,7 +59,7 @@ returns : tie.Need-returns Inv-loop μ-loop
 returns c =
     let d = now (c .before .before .before .args .file) in
     let e : c .before .loop .i ≡ 4 = omega arith in
-    c .before .loop .inv .1 .1 ∙ ap (λ (n : ℕ). sets d 4 (take n letters)) e
+    c .before .loop .inv .1 .1 ∙ ap (λ (n : ℕ). sets d 4 (take n (letters qpl2))) e
 
 pub put-letters-spec : {M : Type 1} → statement M
 put-letters-spec =

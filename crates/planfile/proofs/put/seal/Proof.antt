@@ -1,4 +1,4 @@
--- `planfile::put::seal` meets its contract: the sum, and the store of its four bytes. Assumes nothing.
+-- `planfile::put::seal` meets its contract: the check, and the store of its four bytes. Assumes nothing.
 use mathlib.Core.Path.{ap, _∙_}
 use Prim.Native.Nat.{ℕ, _+_}
 use lib.Seq.{sets}

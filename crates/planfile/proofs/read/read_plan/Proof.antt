@@ -9,7 +9,7 @@ use Rattle.rules.specs.declared.Fields.{Fields}
 use Rattle.blocks.specs.File.{entry-at}
 use Rattle.checks.proofs.StageLaws.{passed-none, stage-stops}
 use Rattle.planfile.specs.Reading.{fields-of, read-refusal, entries}
-use Rattle.planfile.proofs.ReadLaws.{refused-read, accepted-read, inside}
+use Rattle.planfile.proofs.ReadLaws.{refused-read, same-read, accepted-read, inside}
 use borrow.Author.Needs.{needs}
 use Rattle.planfile.proofs.read.read_plan.Statement.{statement}
 use Rattle.planfile.proofs.read.read_plan.Tie as tie
@@ -40,15 +40,19 @@ hand-over-requires c κs =
     let n = scans-read (c .before) in
     (omega (arith, n, i .enough), (omega (arith, n, i .few), λ j l. i .there j (omega (arith, n))))
 
+version-of-requires : tie.Need-version-of-requires
+version-of-requires c κs = omega (arith, inside _ _ (unrefused (c .before .before .before .before .before)) .one-block)
+
 same-length : tie.Need-same-length
 same-length c = search needs
 
 returns : tie.Need-returns
 returns c =
-    let a = c .before .before .before .before .before .before .before .before .before .before .args in
-    let e = unrefused (c .before .before .before .before .before) in
-    accepted-read (now (a .file)) (now (a .settings)) _ (c .before .before .before .before .fields .result) (c .before .before .before .before .fields .ensures) (inside _ _ e .enough)
-    (c .before .before .hand-over .ensures ∙ ap (λ k. sets (now (a .settings)) 0 (entries (entry-at (now (a .file))) 0 k)) (scans-read (c .before .before .before .before))) e
+    let given = c .before .before .before .before .before in
+    let a = given .before .before .before .before .before .before .args in
+    let e = unrefused (given .before) in
+    accepted-read (now (a .file)) (now (a .settings)) _ _ (same-read (now (a .file)) (given .fields .ensures) (c .version-of .ensures)) (inside _ _ e .enough)
+    (c .before .before .before .hand-over .ensures ∙ ap (λ k. sets (now (a .settings)) 0 (entries (entry-at (now (a .file))) 0 k)) (scans-read given)) e
 
 returns-2 : tie.Need-returns-2
 returns-2 c =
@@ -64,6 +68,7 @@ read-plan-spec =
     enum-told
     fields-requires
     hand-over-requires
+    version-of-requires
     same-length
     returns
     returns-2)

@@ -74,7 +74,9 @@ returns c =
     ∙ sym (all-stages (now (a .file)) (a .room))
 
 blocks-requires : tie.Need-blocks-requires
-blocks-requires c κs = sized (now (c .before .before .before .before .args .file)) (c .before .before .size .ensures) (c .enum-told .given .1) .1
+blocks-requires c κs =
+    let s = sized (now (c .before .before .before .before .args .file)) (c .before .before .size .ensures) (c .enum-told .given .1) in
+    (omega (arith, s .0), s .1)
 
 enum-told-3 : tie.Need-enum-told-3
 enum-told-3 c = search needs

@@ -1,0 +1,6 @@
+-- One byte changed, or two exchanged, is refused.
+pub mod TiltLaws
+pub mod PlaceLaws
+pub mod Refused
+pub mod Changed
+pub mod Renamed

@@ -1,0 +1,2 @@
+-- Files that were damaged.
+pub mod Damage

@@ -1,0 +1,1 @@
+// Bytes of a QPL2 file changed or exchanged are refused. This crate has no code.
