@@ -1,23 +1,15 @@
--- One entry more. Assumes nothing.
-use Rattle.laws.proofs.Tests.{cases}
-use mathlib.Core.Path.{_≡_, ap, _∙_}
-use mathlib.Core.List.{[], _∷_, _++_}
-use Prim.Native.Nat.{ℕ, zero, suc, _+_}
-use native.Mathlib.Omega.{arith}
-use Rattle.planfile.specs.Reading.{entries}
+-- The entries of a file, one after another. Assumes nothing.
 use mathlib.Core.Path.{_≡_, refl, sym, ap, _∙_}
-use mathlib.Core.List.{List}
+use mathlib.Core.List.{List, [], _∷_, _++_}
 use Prim.Native.Nat.{ℕ, zero, suc, _+_, _≤_, _<_}
+use native.Mathlib.Omega.{arith}
 use lib.ListN.{length, getD}
 use lib.Seq.{ext-getD}
 use Rattle.bytes.specs.Bytes.{part}
-use Rattle.blocks.specs.File.{entry-of}
 use Rattle.bytes.proofs.PartLaws.{part-length, part-get}
-use mathlib.Core.List.{List, [], _∷_, _++_}
-use Prim.Native.Nat.{ℕ, zero, suc, _+_, _≤_, _<_}
-use lib.ListN.{length, getD}
-use borrow.Author.Tests.{lt-ltb, le-ltb}
+use Rattle.planfile.specs.Reading.{entries}
 
+-- one entry more
 snoc-from : (e : ℕ → ℕ) (i n : ℕ) → entries e i n ++ (e (i + n) ∷ []) ≡ entries e i (suc n)
 snoc-from e i zero = let h : i + 0 ≡ i = omega arith in ap (λ k. e k ∷ []) h
 snoc-from e i (suc n) = let h : i + suc n ≡ suc i + n = omega arith in ap (λ l. e i ∷ l) (ap (λ k. entries e (suc i) n ++ (e k ∷ [])) h ∙ snoc-from e (suc i) n)
@@ -49,16 +41,3 @@ entries-part e l n j at h same =
     each i g =
         let b : i < n = omega (arith, g, length-entries e j n) in
         getD-entries e j n i b ∙ same i b ∙ sym (part-get at n l i b)
-
--- an entry that is a setting
-pub entry-in : (N : ℕ) (settings : List ℕ) (j : ℕ) → j < N → getD settings j 0 ≡ entry-of N settings j
-entry-in N settings j h = rw (lt-ltb j N h) refl
-
--- and one that is none
-pub entry-out : (N : ℕ) (settings : List ℕ) (j : ℕ) → N ≤ j → entry-of N settings j ≡ 0
-entry-out N settings j h = rw (le-ltb j N h) refl
-
--- settings of four bits make entries of four bits
-pub setting-small : (N : ℕ) (settings : List ℕ) → ((j : ℕ) → j < N → getD settings j 0 < 16) → (j : ℕ) → entry-of N settings j < 16
-setting-small N settings h j =
-    cases j N (λ a. omega (arith, entry-in N settings j a, h j a)) (λ a. omega (arith, entry-out N settings j a))

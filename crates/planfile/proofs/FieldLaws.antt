@@ -16,7 +16,7 @@ use Rattle.rules.specs.Rules.{header-rules}
 use Rattle.entries.specs.Entries.{entry-broken}
 use Rattle.planfile.specs.Writing.{no-faults, write-short, write-refusal-under}
 use Rattle.entries.proofs.EntryLaws.{entry-below}
-use Rattle.planfile.proofs.EntryLaws.{setting-small}
+use Rattle.puts.proofs.EntryLaws.{setting-small}
 use Rattle.checks.proofs.CheckLaws.{none-else, none-when, none-found, none-so}
 use Rattle.rules.proofs.FieldLaws.{rules-hold, limited, RulesHold}
 

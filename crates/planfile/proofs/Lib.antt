@@ -2,8 +2,6 @@
 pub mod FieldLaws
 pub mod HeaderLaws
 pub mod EntryLaws
-pub mod EnteredLaws
-pub mod PutLaws
 pub mod Answers
 pub mod Back
 pub mod Lent

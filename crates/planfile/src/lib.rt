@@ -1,5 +1,4 @@
 // Plan files: the reader and the writer.
 pub mod header;
-pub mod put;
 pub mod read;
 pub mod write;

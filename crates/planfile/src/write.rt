@@ -1,13 +1,13 @@
 // The writer: the rules in order, and then the bytes.
 ghost use Rattle.tables.specs.Limits.{«most-scans»};
 ghost use Rattle.blocks.specs.Sizes.{«block-size»};
-use crate::put::put_data;
-use crate::put::put_header;
 use blocks::sizes::BLOCK;
 use blocks::sizes::ENTRIES;
 use checks::stage::Stage;
 use checks::stage::unless;
 use entries::check_settings;
+use puts::put_data;
+use puts::put_header;
 use rules::Faults;
 use rules::Fields;
 use rules::rules;

@@ -1,4 +1,4 @@
--- `planfile::put::put_letters` meets its contract: letter after letter of the fixed byte string. Assumes nothing.
+-- `puts::put_letters` meets its contract: letter after letter of the fixed byte string. Assumes nothing.
 use native.Mathlib.Omega.{arith}
 use mathlib.Core.Path.{_≡_, refl, sym, ap, _∙_}
 use Prim.Native.Nat.{ℕ, _≤_, _+_, _-_}
@@ -8,8 +8,8 @@ use lib.Seq.{sets, take-suc, length-take-le}
 use denote.Ref.{now}
 use Rattle.blocks.specs.Letters.{qpl2, letters}
 use Rattle.laws.proofs.Stores.{sets-snoc}
-use Rattle.planfile.proofs.put.put_letters.Statement.{statement}
-use Rattle.planfile.proofs.put.put_letters.Tie as tie
+use Rattle.puts.proofs.put_letters.Statement.{statement}
+use Rattle.puts.proofs.put_letters.Tie as tie
 
 abbrev Inv-loop : tie.InvT-loop
 Inv-loop file₀ fixed i₀ file i = (i ≤ 4) × ((length file ≡ length file₀) × (file ≡ sets file₀ 4 (take i (letters qpl2))))

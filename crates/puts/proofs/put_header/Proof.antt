@@ -1,4 +1,4 @@
--- `planfile::put::put_header` meets its contract: field after field, and their check. Assumes nothing.
+-- `puts::put_header` meets its contract: field after field, and their check. Assumes nothing.
 use native.Mathlib.Omega.{arith}
 use mathlib.Core.Path.{_≡_}
 use Prim.Native.Nat.{_≤_}
@@ -6,19 +6,19 @@ use lib.ListN.{length}
 use denote.Ref.{now}
 use Rattle.blocks.specs.Letters.{qpl2}
 use Rattle.blocks.specs.File.{header}
-use Rattle.planfile.proofs.PutLaws.{header-stored, with-check}
+use Rattle.puts.proofs.PutLaws.{header-stored, with-check}
 use borrow.Author.Needs.{needs}
-use Rattle.planfile.proofs.put.put_header.Statement.{statement}
-use Rattle.planfile.proofs.put.put_header.Tie as tie
-use Rattle.planfile.proofs.put.put_header.Reads as reads
+use Rattle.puts.proofs.put_header.Statement.{statement}
+use Rattle.puts.proofs.put_header.Tie as tie
+use Rattle.puts.proofs.put_header.Reads as reads
 use Rattle.bytes.proofs.numbers.put_eight.Reads as put-eight-reads
 use Rattle.bytes.proofs.numbers.put_four.Reads as put-four-reads
 use Rattle.bytes.proofs.numbers.put_one.Reads as put-one-reads
 use Rattle.bytes.proofs.numbers.put_two.Reads as put-two-reads
 use Rattle.bytes.proofs.numbers.put_zeros.Reads as put-zeros-reads
-use Rattle.planfile.proofs.put.put_letters.Reads as put-letters-reads
-use Rattle.planfile.proofs.put.seal.Reads as seal-reads
-use Rattle.planfile.proofs.put.put_header.Lts as lts
+use Rattle.puts.proofs.put_letters.Reads as put-letters-reads
+use Rattle.puts.proofs.seal.Reads as seal-reads
+use Rattle.puts.proofs.put_header.Lts as lts
 
 -- the length after the eighth store
 eight-kept : (c : lts.After-put-eight (

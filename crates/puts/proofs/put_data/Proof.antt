@@ -1,12 +1,12 @@
--- `planfile::put::put_data` meets its contract: number, entries and check one after the other. Assumes nothing.
+-- `puts::put_data` meets its contract: number, entries and check one after the other. Assumes nothing.
 use native.Mathlib.Omega.{arith}
 use denote.Ref.{now}
 use Rattle.blocks.specs.Letters.{qpl2}
 use Rattle.blocks.specs.File.{entry-of}
-use Rattle.planfile.proofs.PutLaws.{data-stored}
+use Rattle.puts.proofs.PutLaws.{data-stored}
 use borrow.Author.Needs.{needs}
-use Rattle.planfile.proofs.put.put_data.Statement.{statement}
-use Rattle.planfile.proofs.put.put_data.Tie as tie
+use Rattle.puts.proofs.put_data.Statement.{statement}
+use Rattle.puts.proofs.put_data.Tie as tie
 
 add-at : tie.Need-add-at
 add-at c = search needs

@@ -1,12 +1,12 @@
--- `planfile::put::seal` meets its contract: the check, and the store of its four bytes. Assumes nothing.
+-- `puts::seal` meets its contract: the check, and the store of its four bytes. Assumes nothing.
 use mathlib.Core.Path.{ap, _∙_}
 use Prim.Native.Nat.{ℕ, _+_}
 use lib.Seq.{sets}
 use denote.Ref.{now}
 use Rattle.bytes.specs.Bytes.{le}
 use borrow.Author.Needs.{needs}
-use Rattle.planfile.proofs.put.seal.Statement.{statement}
-use Rattle.planfile.proofs.put.seal.Tie as tie
+use Rattle.puts.proofs.seal.Statement.{statement}
+use Rattle.puts.proofs.seal.Tie as tie
 
 check-of-requires : tie.Need-check-of-requires
 check-of-requires c κs = search needs

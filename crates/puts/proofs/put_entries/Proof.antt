@@ -1,4 +1,4 @@
--- `planfile::put::put_entries` meets its contract: zeros, and then entry after entry. Assumes nothing.
+-- `puts::put_entries` meets its contract: zeros, and then entry after entry. Assumes nothing.
 use native.Mathlib.Omega.{arith}
 use mathlib.Core.Path.{_≡_, refl, sym, ap, _∙_}
 use Prim.Native.Nat.{ℕ, suc, _≤_, _<_, _+_, _*_, _-_, _%_}
@@ -10,11 +10,11 @@ use denote.Ref.{now}
 use Rattle.blocks.specs.File.{entry-of}
 use Rattle.bytes.specs.Bytes.{with-half}
 use Rattle.blocks.specs.Packed.{place-of}
-use Rattle.planfile.proofs.PutLaws.{length-kept}
-use Rattle.planfile.proofs.EnteredLaws.{entered, Entered, entered-none, entered-more, entered-all, length-entered}
-use Rattle.planfile.proofs.EntryLaws.{entry-in, entry-out, setting-small}
-use Rattle.planfile.proofs.put.put_entries.Statement.{statement}
-use Rattle.planfile.proofs.put.put_entries.Tie as tie
+use Rattle.puts.proofs.PutLaws.{length-kept}
+use Rattle.puts.proofs.EnteredLaws.{entered, Entered, entered-none, entered-more, entered-all, length-entered}
+use Rattle.puts.proofs.EntryLaws.{entry-in, entry-out, setting-small}
+use Rattle.puts.proofs.put_entries.Statement.{statement}
+use Rattle.puts.proofs.put_entries.Tie as tie
 
 abbrev Inv-loop : tie.InvT-loop
 Inv-loop file₀ b settings scans j₀ file j =

@@ -1,0 +1,4 @@
+-- The laws of blocks as they are written.
+pub mod EntryLaws
+pub mod EnteredLaws
+pub mod PutLaws
