@@ -2,12 +2,10 @@
 -- block, the letters included. Assumes nothing.
 use mathlib.Core.Path.{_≡_, sym, ap, _∙_}
 use mathlib.Core.Logic.{_≢_}
-use mathlib.Core.Bool.{false}
 use mathlib.Core.Option.{none}
 use mathlib.Core.List.{List}
 use Prim.Native.Nat.{ℕ, _+_, _*_, _/_, _<_}
 use native.Mathlib.Omega.{arith}
-use lib.Dec.{eqb}
 use lib.ListN.{length, getD, set, length-set}
 use lib.Seq.{getD-set-other}
 use Rattle.tables.specs.declared.refusal.Refusal.the-variants as refusal
@@ -16,15 +14,16 @@ use Rattle.checks.proofs.CheckLaws.{none-else, none-when}
 use Rattle.rules.specs.declared.Fields.{Fields}
 use Rattle.bytes.specs.Bytes.{part}
 use Rattle.bytes.proofs.PartLaws.{part-length, part-get}
-use Rattle.blocks.specs.Letters.{qpl2, no-version, version-of}
+use Rattle.blocks.specs.Letters.{qpl2, version-of}
 use Rattle.blocks.specs.File.{file-of}
 use Rattle.blocks.specs.Blocks.{length-out}
-use Rattle.blocks.proofs.LetterLaws.{version-letters, qpl2-known}
+use Rattle.blocks.proofs.LetterLaws.{qpl2-known}
 use Rattle.planfile.specs.Reading.{read-refusal-under, read-refusal}
 use Rattle.planfile.specs.Writing.{write-refusal}
 use Rattle.planfile.proofs.Back.{length-sound, version-back, sound-back}
 use Rattle.planfile.proofs.Accepted.{passed}
 use Rattle.damage.specs.Damage.{Qpl2File, Among, place, changed, exchanged, RefusedAt}
+use Rattle.damage.proofs.SoundLaws.{own-letters}
 use Rattle.damage.proofs.TiltLaws.{sum-set, changed-tilt, sum-below, tilt-over, exchanged-sum, exchanged-tilt}
 use Rattle.damage.proofs.PlaceLaws.{outside, inside}
 use Rattle.damage.proofs.Refused.{Damaged, damaged-refused}
@@ -40,12 +39,11 @@ module _ (file : List ℕ) (good : Qpl2File file) (b : ℕ) (h : b < length file
   -- the first letter, in block 0
   first-letter : b ≡ 0 → getD body 4 0 ≡ 81
   first-letter z =
-      let known : eqb (version-of file) no-version ≡ false = ap (λ (v : ℕ). eqb v no-version) (good .letters) in
       let four : 512 * b + 4 ≡ 4 + 0 = omega (arith, z) in
       part-get (512 * b) 508 file 4 (omega arith)
       ∙ ap (λ (i : ℕ). getD file i 0) four
       ∙ sym (part-get 4 4 file 0 (omega arith))
-      ∙ sym (ap (λ (l : List ℕ). getD l 0 0) (version-letters file (omega arith) known))
+      ∙ sym (ap (λ (l : List ℕ). getD l 0 0) (own-letters qpl2 file good qpl2-known))
 
   -- what one changed byte does
   damaged-by-change : (k v : ℕ) → k < 508 → v < 256 → v ≢ getD file (512 * b + k) 0 → Damaged file b (changed b k v file)

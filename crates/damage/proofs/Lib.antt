@@ -1,4 +1,5 @@
 -- One byte changed, or two exchanged, is refused.
+pub mod SoundLaws
 pub mod TiltLaws
 pub mod PlaceLaws
 pub mod Refused

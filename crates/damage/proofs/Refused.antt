@@ -14,7 +14,7 @@ use borrow.Author.Tests.{eqb-false}
 use Rattle.tables.specs.declared.refusal.Refusal.{Refusal}
 use Rattle.tables.specs.declared.refusal.Refusal.the-variants as refusal
 use Rattle.checks.specs.Checks.{or-answer}
-use Rattle.checks.proofs.CheckLaws.{first-found, none-so}
+use Rattle.checks.proofs.CheckLaws.{first-found}
 use Rattle.bytes.specs.Bytes.{part, value, number-at}
 use Rattle.blocks.specs.Letters.{qpl2, version-of}
 use Rattle.blocks.specs.BlockCheck.{sum, tilt, check-of}
@@ -25,6 +25,7 @@ use Rattle.blocks.proofs.BlockLaws.{other-check, same-block}
 use Rattle.blocks.proofs.SoundLaws.{block-rules}
 use Rattle.planfile.specs.Reading.{read-refusal-under, read-refusal, read-of, settings-after, plan-read, read-values}
 use Rattle.damage.specs.Damage.{Qpl2File, RefusedAt}
+use Rattle.damage.proofs.SoundLaws.{right-block}
 use Rattle.damage.proofs.PlaceLaws.{same-part}
 
 -- a file of either length whose lowest broken block is b is refused with 12 at b, whatever is lent
@@ -62,13 +63,6 @@ unequal-check version body body′ tilted light = of (eqb version qpl2) (eqb-fal
     of false q e = absurd (omega (arith, e, light (q refl)))
 
 module _ (file : List ℕ) (b : ℕ) (file′ : List ℕ) (good : Qpl2File file) (h : b < length file / 512) (d : Damaged file b file′) where
-  -- every block of the file was right
-  right : (k : ℕ) → k < length file / 512 → block-broken qpl2 file k ≡ false
-  unfolding bad-block
-  right k g =
-      ap (λ (v : ℕ). block-broken v file k) (sym (good .letters))
-      ∙ none-so (length file / 512) (block-broken (version-of file) file) 0 (good .blocks) k (omega arith) (omega arith)
-
   -- a part before the block is as it was
   kept : (at n : ℕ) → at + n ≤ 512 * b → part at n file′ ≡ part at n file
   kept at n g = same-part file file′ at n (d .long) (omega (arith, g, h)) (λ i l. d .before (at + i) (omega arith))
@@ -82,12 +76,12 @@ module _ (file : List ℕ) (b : ℕ) (file′ : List ℕ) (good : Qpl2File file)
   kept-block k g =
       ap (λ (v : ℕ). block-broken v file′ k) (kept-version (omega arith))
       ∙ same-block qpl2 file file′ k (kept (512 * k) 4 (omega arith)) (kept (512 * k + 508) 4 (omega arith)) (kept (512 * k) 508 (omega arith))
-      ∙ right k (omega arith)
+      ∙ right-block qpl2 file good k (omega arith)
 
   -- what is stored is the check of what stood there
   stored-check : number-at (512 * b + 508) 4 file′ ≡ 1 + tilt 508 (part (512 * b) 508 file)
   unfolding number-at
-  stored-check = ap value (d .stored) ∙ block-rules qpl2 file b (right b h) .1 ∙ sym (check-tilt qpl2 (part (512 * b) 508 file) refl)
+  stored-check = ap value (d .stored) ∙ block-rules qpl2 file b (right-block qpl2 file good b h) .1 ∙ sym (check-tilt qpl2 (part (512 * b) 508 file) refl)
 
   -- where the letters do not say QPL2 any more, the block is theirs
   lighter : version-of file′ ≢ qpl2 → sum (part (512 * b) 508 file′) ≤ tilt 508 (part (512 * b) 508 file)

@@ -1,25 +1,24 @@
 -- The other way round: a QPL1 file whose last letter becomes that of QPL2 is refused with 12 at block 0, for its sum is below the new check.
 -- Assumes nothing.
 use mathlib.Core.Path.{_≡_, sym, ap, _∙_}
-use mathlib.Core.Bool.{true, false}
+use mathlib.Core.Bool.{true}
 use mathlib.Core.Option.{some}
 use mathlib.Core.List.{List}
 use Prim.Native.Nat.{ℕ, _+_, _/_, _≤_, _<_}
 use native.Mathlib.Omega.{arith}
-use lib.Dec.{eqb}
 use lib.ListN.{length, getD, set, length-set}
-use Rattle.checks.proofs.CheckLaws.{first-found, none-so}
+use Rattle.checks.proofs.CheckLaws.{first-found}
 use Rattle.bytes.specs.Bytes.{part, value, number-at}
 use Rattle.bytes.proofs.PartLaws.{part-length, part-get}
-use Rattle.blocks.specs.Letters.{qpl1, qpl2, no-version, letters, version-of}
+use Rattle.blocks.specs.Letters.{qpl1, qpl2, letters, version-of}
 use Rattle.blocks.specs.BlockCheck.{sum, tilt}
 use Rattle.blocks.specs.Blocks.{length-out, block-broken, bad-block}
-use Rattle.blocks.proofs.LetterLaws.{version-letters, letters-version, qpl2-known}
+use Rattle.blocks.proofs.LetterLaws.{letters-version, qpl1-known, qpl2-known}
 use Rattle.blocks.proofs.SumLaws.{check-tilt, check-sum}
 use Rattle.blocks.proofs.BlockLaws.{other-check}
 use Rattle.blocks.proofs.SoundLaws.{block-rules}
-use Rattle.planfile.proofs.ReadLaws.{two-lengths}
 use Rattle.damage.specs.Damage.{SoundFile, changed, RefusedAt}
+use Rattle.damage.proofs.SoundLaws.{enough, right-block, own-letters}
 use Rattle.damage.proofs.TiltLaws.{sum-set, sum-below}
 use Rattle.damage.proofs.PlaceLaws.{outside, inside}
 use Rattle.damage.proofs.Refused.{refused-at}
@@ -29,46 +28,38 @@ module _ (file : List ℕ) (good : SoundFile qpl1 file) where
   abbrev file′ : List ℕ
   file′ = changed 0 7 50 file
 
-  enough : 1024 ≤ length file
-  enough = two-lengths (length file) (good .long) .0
+  long-enough : 1024 ≤ length file
+  long-enough = enough qpl1 file good
 
   long : length file′ ≡ length file
   long = length-set file 7 50
 
   -- its letters were QPL1
   old-letters : letters qpl1 ≡ part 4 4 file
-  old-letters =
-      ap letters (sym (good .letters)) ∙ version-letters file (omega (arith, enough)) (ap (λ (v : ℕ). eqb v no-version) (good .letters))
+  old-letters = own-letters qpl1 file good qpl1-known
 
   -- and are QPL2
   new-version : version-of file′ ≡ qpl2
   new-version =
       letters-version qpl2 qpl2-known file′
-      (inside file 4 4 3 50 (omega (arith, enough)) (omega arith) ∙ ap (λ (l : List ℕ). set l 3 50) (sym old-letters))
-
-  -- block 0 was right
-  right : block-broken qpl1 file 0 ≡ false
-  unfolding bad-block
-  right =
-      ap (λ (v : ℕ). block-broken v file 0) (sym (good .letters))
-      ∙ none-so (length file / 512) (block-broken (version-of file) file) 0 (good .blocks) 0 (omega arith) (omega (arith, enough))
+      (inside file 4 4 3 50 (omega (arith, long-enough)) (omega arith) ∙ ap (λ (l : List ℕ). set l 3 50) (sym old-letters))
 
   abbrev body : List ℕ
   body = part 0 508 file
 
   body-length : length body ≡ 508
-  body-length = part-length 0 508 file (omega (arith, enough))
+  body-length = part-length 0 508 file (omega (arith, long-enough))
 
   -- the check that is stored is the sum, and of the new bytes the sum is one more
   stored : number-at 508 4 file′ ≡ sum body
   unfolding number-at
   stored =
-      ap value (outside file 508 4 7 50 (omega (arith, enough)) (λ i l e. absurd (omega (arith, e))))
-      ∙ block-rules qpl1 file 0 right .1
+      ap value (outside file 508 4 7 50 (omega (arith, long-enough)) (λ i l e. absurd (omega (arith, e))))
+      ∙ block-rules qpl1 file 0 (right-block qpl1 file good 0 (omega (arith, long-enough))) .1
       ∙ sym (check-sum qpl1 body (λ e. absurd (omega (arith, e))))
 
   new-body : part 0 508 file′ ≡ set body 7 50
-  new-body = inside file 0 508 7 50 (omega (arith, enough)) (omega arith)
+  new-body = inside file 0 508 7 50 (omega (arith, long-enough)) (omega arith)
 
   last-letter : getD body 7 0 ≡ 49
   last-letter =
@@ -94,7 +85,7 @@ module _ (file : List ℕ) (good : SoundFile qpl1 file) where
 
   lowest : bad-block file′ ≡ some 0
   unfolding bad-block
-  lowest = first-found (block-broken (version-of file′) file′) 0 0 (length file′ / 512) (λ i g. absurd (omega arith)) (omega (arith, long, enough)) broken
+  lowest = first-found (block-broken (version-of file′) file′) 0 0 (length file′ / 512) (λ i g. absurd (omega arith)) (omega (arith, long, long-enough)) broken
 
   -- A QPL1 file of which every block is right, its last letter changed to that of QPL2.
   pub renamed-letters : RefusedAt 0 file′
