@@ -1,18 +1,20 @@
 /* Calls of the archive from standard input, what each gives back and leaves on standard output: the tests from outside compare it with the
  * second program. Each lent buffer is exactly as long as asked, between guard bytes, and filled with a pattern before the call; so are the
- * tables of an import, between guard cells (lent.h). The tables of an export stand between guard cells too, and must be as they were.
+ * tables of an import, between guard cells (lent.h). The tables of an export stand between guard cells too, and the weights of a planning call
+ * between guard bytes, and must be as they were.
  *
  * A call is words parted by blanks. Numbers are decimal; bytes are hexadecimal, or "-" for none.
  *   room CHANNELS SCANS SETTINGS ANSWER
- *   ceiling SCANS SETTINGS LAW X PLAN SCRATCH ANSWER RATES DISTORTIONS cells..
- *   multiplier SCANS SETTINGS LAW N D PLAN SCRATCH ANSWER RATES DISTORTIONS cells..
- *   minmax, average: SCANS SETTINGS LAW B PLAN SCRATCH ANSWER RATES DISTORTIONS cells..
+ *   ceiling SCANS SETTINGS LAW X PLAN SCRATCH ANSWER RATES DISTORTIONS WEIGHTS cells.. weights..
+ *   multiplier SCANS SETTINGS LAW N D PLAN SCRATCH ANSWER RATES DISTORTIONS WEIGHTS cells.. weights..
+ *   minmax, average: SCANS SETTINGS LAW B PLAN SCRATCH ANSWER RATES DISTORTIONS WEIGHTS cells.. weights..
  *   read PLAN ANSWER bytes of the file
- *   write eleven fields FILE bytes of the settings
+ *   write twelve fields FILE bytes of the settings
  *   import SCANS SETTINGS RATES DISTORTIONS bytes of scratch bytes of the text
  *   export SCANS SETTINGS TEXT ANSWER RATES DISTORTIONS cells..
- * where PLAN, SCRATCH, ANSWER, FILE and TEXT are lengths of buffers, and RATES and DISTORTIONS are lengths of tables. Scratch is given to an
- * import as bytes, since whatever it holds before must not count.
+ * where PLAN, SCRATCH, ANSWER, FILE and TEXT are lengths of buffers, RATES and DISTORTIONS are lengths of tables, and WEIGHTS says how many
+ * weights there are; the fields are those of qpl_write in its order. Scratch is given to an import as bytes, since whatever it holds before
+ * must not count.
  * A line of the output is the 64-bit number that came back, and every byte of every lent buffer in the order answer, plan, scratch, file,
  * text; of an import also every cell of rates and distortions, in decimal with commas between them, or "-" for none. */
 #include "lent.h"
@@ -86,6 +88,14 @@ static uint32_t *cells(size_t count) {
     return table;
 }
 
+/* Weights from the input, as numbers. */
+static lent weights_given(size_t count) {
+    lent l = lend(count, 0);
+    size_t i;
+    for (i = 0; i < count; i++) l.bytes[i] = (uint8_t)number();
+    return l;
+}
+
 static lent_table given_table(size_t count) {
     lent_table l = lend_table(count, 0);
     size_t i;
@@ -126,25 +136,28 @@ static void room(void) {
 static void plan(const char *which) {
     uint64_t scans = number(), settings = number(), law = number(), limit = number(), d = strcmp(which, "multiplier") == 0 ? number() : 0;
     lent plan = lend(size(), PLAN_FROM), scratch = lend(size(), SCRATCH_FROM), answer = lend(size(), ANSWER_FROM);
-    size_t rates_length = size(), distortions_length = size();
+    size_t rates_length = size(), distortions_length = size(), weights_length = size();
     uint32_t *rates = cells(rates_length), *distortions = cells(distortions_length);
+    lent weights = weights_given(weights_length);
+    read_only content = keep(weights);
     uint64_t given;
     if (strcmp(which, "ceiling") == 0)
-        given = qpl_ceiling(scans, settings, law, (uint32_t)limit, rates, rates_length, distortions, distortions_length, plan.bytes,
-                            plan.length, scratch.bytes, scratch.length, answer.bytes, answer.length);
+        given = qpl_ceiling(scans, settings, law, (uint32_t)limit, rates, rates_length, distortions, distortions_length, weights.bytes,
+                            weights.length, plan.bytes, plan.length, scratch.bytes, scratch.length, answer.bytes, answer.length);
     else if (strcmp(which, "multiplier") == 0)
-        given = qpl_multiplier(scans, settings, law, limit, d, rates, rates_length, distortions, distortions_length, plan.bytes,
-                               plan.length, scratch.bytes, scratch.length, answer.bytes, answer.length);
+        given = qpl_multiplier(scans, settings, law, limit, d, rates, rates_length, distortions, distortions_length, weights.bytes,
+                               weights.length, plan.bytes, plan.length, scratch.bytes, scratch.length, answer.bytes, answer.length);
     else if (strcmp(which, "minmax") == 0)
-        given = qpl_minmax(scans, settings, law, limit, rates, rates_length, distortions, distortions_length, plan.bytes, plan.length,
-                           scratch.bytes, scratch.length, answer.bytes, answer.length);
+        given = qpl_minmax(scans, settings, law, limit, rates, rates_length, distortions, distortions_length, weights.bytes,
+                           weights.length, plan.bytes, plan.length, scratch.bytes, scratch.length, answer.bytes, answer.length);
     else
-        given = qpl_average(scans, settings, law, limit, rates, rates_length, distortions, distortions_length, plan.bytes, plan.length,
-                            scratch.bytes, scratch.length, answer.bytes, answer.length);
+        given = qpl_average(scans, settings, law, limit, rates, rates_length, distortions, distortions_length, weights.bytes,
+                            weights.length, plan.bytes, plan.length, scratch.bytes, scratch.length, answer.bytes, answer.length);
     printf("%" PRIu64, given);
     show(&answer);
     show(&plan);
     show(&scratch);
+    kept(&content);
     free(rates);
     free(distortions);
 }
@@ -159,16 +172,16 @@ static void read_file(void) {
 }
 
 static void write_file(void) {
-    uint64_t f[11];
+    uint64_t f[12];
     lent file, settings;
     read_only content;
     size_t k;
-    for (k = 0; k < 11; k++) f[k] = number();
+    for (k = 0; k < 12; k++) f[k] = number();
     file = lend(size(), PLAN_FROM);
     settings = bytes();
     content = keep(settings);
-    printf("%" PRIu64, qpl_write(f[0], f[1], f[2], f[3], f[4], f[5], f[6], f[7], f[8], f[9], f[10], settings.bytes, settings.length,
-                                 file.bytes, file.length));
+    printf("%" PRIu64, qpl_write(f[0], f[1], f[2], f[3], f[4], f[5], f[6], f[7], f[8], f[9], f[10], f[11], settings.bytes,
+                                 settings.length, file.bytes, file.length));
     show(&file);
     kept(&content);
 }

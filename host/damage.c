@@ -163,7 +163,8 @@ static int write_file(const uint64_t *f) {
     lend_rooms();
     file = (uint8_t *)calloc(length, 1);
     if (file == NULL) exit(2);
-    if (qpl_write(f[0], f[1], f[2], f[3], f[4], f[5], f[6], f[7], f[8], f[9], f[10], settings, scans, file, length) != 0) return 0;
+    if (qpl_write(f[0], f[1], f[2], f[3], f[4], f[5], f[6], f[7], f[8], f[9], f[10], f[QPL_READ_WEIGHTED], settings, scans, file, length) != 0)
+        return 0;
     for (k = 0; k < sizeof values; k++) values[k] = (uint8_t)(f[k / 8] >> 8 * (k % 8));
     memcpy(written, file, length);
     seal_as(written, length, 2);
@@ -191,10 +192,12 @@ static void damage(const uint64_t *fields) {
     free(file);
 }
 
-/* Fields in the order in which the reader answers them, the version at the end. */
+/* Fields in the order in which the reader answers them, at the end the version, and the mark of weights, which lets the second file have a
+ * peak over its distortion. */
 static const uint64_t three_blocks[] = {1013,       16,         0,         QPL_KIND_AVERAGE, UINT64_C(0x80ff3331013200fe), 0x12345679,
-                                        0x12345678, 0x01c3d1e2, 0x2a5b91f3, 0xfedcb,         0x21436587,                   QPL_VERSION_2};
-static const uint64_t two_blocks[] = {601, 9, 1, QPL_KIND_MINMAX, 0x3332, 0, 0, 0x3031, 0x3231, 0x131, 0, QPL_VERSION_2};
+                                        0x12345678, 0x01c3d1e2, 0x2a5b91f3, 0xfedcb,         0x21436587,                   QPL_VERSION_2,
+                                        0};
+static const uint64_t two_blocks[] = {601, 9, 1, QPL_KIND_MINMAX, 0x3332, 0, 0, 0x3031, 0x131, 0x3231, 0, QPL_VERSION_2, 1};
 
 int main(int count, char **words) {
     size_t k;

@@ -20,11 +20,13 @@ int main(void) {
     const uint64_t scans = 2, settings = 2, law = 0, budget = 17;
     const uint32_t rates[] = {10, 4, 8, 3, 9, 5};
     const uint32_t distortions[] = {2, 7, 3, 6, 4, 10};
+    /* one for each scan: all 1, so that no scan counts more than another */
+    const uint8_t weights[] = {1, 1};
     /* what is lent holds values, also where a call only writes it */
     uint8_t answer[QPL_READ_ANSWER] = {0};
     uint8_t file[1536] = {0};
     uint8_t *plan, *scratch;
-    uint64_t given, cells, scratch_bytes, k;
+    uint64_t given, cells, scratch_bytes, weighted = 0, k;
 
     given = qpl_room(1, scans, settings, answer, sizeof answer);
     if (given != 0) stop("qpl_room", given);
@@ -33,14 +35,16 @@ int main(void) {
     plan = lend(scans);
     scratch = lend(scratch_bytes);
 
-    given = qpl_average(scans, settings, law, budget, rates, (size_t)cells, distortions, (size_t)cells, plan, (size_t)scans, scratch,
-                        (size_t)scratch_bytes, answer, sizeof answer);
+    given = qpl_average(scans, settings, law, budget, rates, (size_t)cells, distortions, (size_t)cells, weights, (size_t)scans, plan,
+                        (size_t)scans, scratch, (size_t)scratch_bytes, answer, sizeof answer);
     if (given != 0) stop("qpl_average", given);
 
-    /* n, d, rate, distortion, peak and floor go into the file as they came. */
+    /* n, d, rate, distortion, peak and floor go into the file as they came, and of the weights whether any differs from 1. */
+    for (k = 0; k < scans; k++)
+        if (weights[k] != 1) weighted = 1;
     given = qpl_write(scans, settings, law, QPL_KIND_AVERAGE, budget, qpl_value(answer, QPL_AVERAGE_N), qpl_value(answer, QPL_AVERAGE_D),
                       qpl_value(answer, QPL_AVERAGE_RATE), qpl_value(answer, QPL_AVERAGE_DISTORTION), qpl_value(answer, QPL_AVERAGE_PEAK),
-                      qpl_value(answer, QPL_AVERAGE_FLOOR), plan, (size_t)scans, file, sizeof file);
+                      qpl_value(answer, QPL_AVERAGE_FLOOR), weighted, plan, (size_t)scans, file, sizeof file);
     if (given != 0) stop("qpl_write", given);
 
     given = qpl_read(file, 1024, plan, (size_t)scans, answer, sizeof answer);

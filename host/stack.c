@@ -2,9 +2,9 @@
  * A depth is counted from the caller's stack pointer at the call: the return address is in it, what the caller itself pushes (arguments from
  * the seventh on) is not. Each must be within QPL_STACK.
  *
- * The calls run on the largest tables, on small ones, on refusals, and on n and d that are consecutive Fibonacci numbers, on which the
- * remainder rule of Euclid goes deepest: two functions of the library call themselves by it. Files are read in both versions. Import and
- * export run on the longest list, on short ones, and on refusals.
+ * The calls run on the largest tables, on small ones, with all weights 1 and with others, on refusals, and on n and d that are consecutive
+ * Fibonacci numbers, on which the remainder rule of Euclid goes deepest: two functions of the library call themselves by it. Files are read
+ * in both versions, and as QPL2 with the mark of weights too. Import and export run on the longest list, on short ones, and on refusals.
  *
  * So that the measurement is not fooled: a byte that is written with the paint's own value shows under a second paint; a function that takes
  * no stack, and one that fills a known room of it, must come out so; and each call must give back what it should, and an import must leave
@@ -20,17 +20,17 @@
 #endif
 
 #define STACK 65536
-#define ARGUMENTS 15
+#define ARGUMENTS 17
 #define ROOM 4000
 #define SCANS 1024
-/* Of a plan file, as the writer takes them; the reader answers the version behind them. */
+/* Of a plan file, as the writer takes them, with the mark of weights behind them; the reader answers the version and then the mark. */
 #define FIELDS 11
 #define CELLS (16 + 1023 * 256)
 /* The two greatest Fibonacci numbers that a multiplier can have. */
 #define FIBONACCI 701408733
 #define FIBONACCI_BEFORE 433494437
 
-/* Calls f with these fifteen numbers, as C passes them, on the stack that ends at `top`. Where f takes fewer, it looks at the first ones. */
+/* Calls f with these seventeen numbers, as C passes them, on the stack that ends at `top`. Where f takes fewer, it looks at the first ones. */
 uint64_t called(void (*f)(void), const uint64_t *arguments, uint8_t *top);
 __asm__(".text\n"
         "called:\n"
@@ -39,6 +39,8 @@ __asm__(".text\n"
         "    movq %rdi, %rax\n"
         "    movq %rsi, %r10\n"
         "    leaq -8(%rdx), %rsp\n"
+        "    pushq 128(%r10)\n"
+        "    pushq 120(%r10)\n"
         "    pushq 112(%r10)\n"
         "    pushq 104(%r10)\n"
         "    pushq 96(%r10)\n"
@@ -58,14 +60,14 @@ __asm__(".text\n"
         "    movq %rbp, %rsp\n"
         "    popq %rbp\n"
         "    retq\n");
-/* What is pushed there before the call: nine numbers, and eight bytes so that the stack is aligned. */
-#define PUSHED 80
+/* What is pushed there before the call: eleven numbers, and eight bytes so that the stack is aligned. */
+#define PUSHED 96
 
 static const uint8_t paints[] = {0xa5, 0x3c};
 
 static uint8_t stack[STACK + 16];
 static uint32_t rates[CELLS], distortions[CELLS];
-static uint8_t plan[SCANS], scratch[16 * SCANS], answer[QPL_READ_ANSWER], file[1536];
+static uint8_t weights[SCANS], plan[SCANS], scratch[16 * SCANS], answer[QPL_READ_ANSWER], file[1536];
 /* Of a list: the longest that there is, with room for one line more; scratch, a byte for each cell; and the tables that an import fills. */
 #define LONGEST 6722470
 #define LINE 32
@@ -126,13 +128,15 @@ static void run(enum call which, const uint64_t *arguments, uint64_t right) {
 static void run_plan(enum call which, uint64_t scans, uint64_t settings, uint64_t law, uint64_t limit, uint64_t d, uint64_t right) {
     uint64_t cells = settings + (scans - 1) * settings * settings;
     uint64_t arguments[ARGUMENTS] = {scans, settings, law, limit};
-    uint64_t slices[10];
+    uint64_t slices[12];
     size_t from = which == CALL_MULTIPLIER ? 5 : 4;
     slices[0] = AT(rates), slices[1] = cells;
     slices[2] = AT(distortions), slices[3] = cells;
-    slices[4] = AT(plan), slices[5] = sizeof plan;
-    slices[6] = AT(scratch), slices[7] = sizeof scratch;
-    slices[8] = AT(answer), slices[9] = sizeof answer;
+    /* where 5 is right there is a weight too few */
+    slices[4] = AT(weights), slices[5] = right == 5 ? scans - 1 : scans;
+    slices[6] = AT(plan), slices[7] = sizeof plan;
+    slices[8] = AT(scratch), slices[9] = sizeof scratch;
+    slices[10] = AT(answer), slices[11] = sizeof answer;
     if (which == CALL_MULTIPLIER) arguments[4] = d;
     memcpy(arguments + from, slices, sizeof slices);
     run(which, arguments, right);
@@ -144,12 +148,22 @@ static uint32_t drawn(uint32_t below) {
     return (uint32_t)((state >> 33) % below);
 }
 
-/* Random cells, of which one in `closed` is forbidden (none where it is 0). */
+/* Random cells, of which one in `closed` is forbidden (none where it is 0), and all weights 1. */
 static void fill(uint32_t closed) {
     size_t k;
+    memset(weights, 1, sizeof weights);
     for (k = 0; k < CELLS; k++) {
         rates[k] = closed != 0 && drawn(closed) == 0 ? QPL_FORBIDDEN : drawn(1048576);
         distortions[k] = drawn(1048576);
+    }
+}
+
+/* Random weights for the tables as they are, of which the distortions are made so much smaller that they are legal. */
+static void weigh(uint64_t scans, uint64_t settings) {
+    uint64_t i, k = 0;
+    for (i = 0; i < scans; i++) {
+        weights[i] = (uint8_t)drawn(256);
+        for (; k < settings + i * settings * settings; k++) distortions[k] %= 1048575 / (weights[i] > 1 ? weights[i] : 1) + 1;
     }
 }
 
@@ -192,9 +206,9 @@ static void run_slope(uint32_t n, uint32_t d) {
     expect("the slope is n/d", qpl_value(answer, QPL_AVERAGE_N) == n && qpl_value(answer, QPL_AVERAGE_D) == d);
 }
 
-/* Reads the file, which has these fields and is of this version; then refused: an answer that is short, a length that no file has, a
- * changed byte of block 1. */
-static void run_reads(uint64_t length, const uint64_t *fields, uint64_t version) {
+/* Reads the file, which has these fields, is of this version and has this mark; then refused: an answer that is short, a length that no file
+ * has, a changed byte of block 1. */
+static void run_reads(uint64_t length, const uint64_t *fields, uint64_t version, uint64_t weighted) {
     uint64_t reading[ARGUMENTS] = {0};
     size_t k;
     int good = 1;
@@ -206,6 +220,7 @@ static void run_reads(uint64_t length, const uint64_t *fields, uint64_t version)
     for (k = 0; k < fields[QPL_READ_SCANS]; k++) good = good && plan[k] == k % 16;
     expect("a file reads back as it was written", good);
     expect("a file reads back in its version", qpl_value(answer, QPL_READ_VERSION) == version);
+    expect("a file reads back with its mark", qpl_value(answer, QPL_READ_WEIGHTED) == weighted);
     reading[5] = sizeof answer - 1;
     run(CALL_READ, reading, 6);
     reading[1] = length - 1;
@@ -216,24 +231,32 @@ static void run_reads(uint64_t length, const uint64_t *fields, uint64_t version)
     file[700]--;
 }
 
-/* The settings go up by one and from 15 to 0, which law 0 and law 2 allow. */
-static void run_files(uint64_t scans, uint64_t law, uint64_t kind, uint64_t n, uint64_t d) {
+/* The settings go up by one and from 15 to 0, which law 0 and law 2 allow. Where the mark is 1 the peak is over the distortion. */
+static void run_files(uint64_t scans, uint64_t law, uint64_t kind, uint64_t n, uint64_t d, uint64_t weighted) {
     uint64_t length = scans > 1008 ? 1536 : 1024, k;
     uint64_t writing[ARGUMENTS] = {0};
     uint64_t fields[FIELDS] = {0};
     /* the writer takes its fields in the order in which the reader answers them */
     fields[QPL_READ_SCANS] = scans, fields[QPL_READ_SETTINGS] = 16, fields[QPL_READ_LAW] = law, fields[QPL_READ_KIND] = kind;
     fields[QPL_READ_BUDGET] = UINT64_MAX, fields[QPL_READ_N] = n, fields[QPL_READ_D] = d;
-    fields[QPL_READ_RATE] = fields[QPL_READ_DISTORTION] = 1073740800;
-    fields[QPL_READ_PEAK] = 1048575, fields[QPL_READ_FLOOR] = kind == QPL_KIND_AVERAGE ? 1073740800 : 0;
+    fields[QPL_READ_RATE] = 1073740800, fields[QPL_READ_DISTORTION] = weighted ? 1000 : 1073740800;
+    fields[QPL_READ_PEAK] = 1048575, fields[QPL_READ_FLOOR] = kind == QPL_KIND_AVERAGE ? fields[QPL_READ_DISTORTION] : 0;
     for (k = 0; k < scans; k++) plan[k] = (uint8_t)(k % 16);
     memcpy(writing, fields, sizeof fields);
-    writing[11] = AT(plan), writing[12] = scans, writing[13] = AT(file), writing[14] = length;
+    writing[11] = weighted, writing[12] = AT(plan), writing[13] = scans, writing[14] = AT(file), writing[15] = length;
     run(CALL_WRITE, writing, 0);
-    run_reads(length, fields, QPL_VERSION_2);
+    run_reads(length, fields, QPL_VERSION_2, weighted);
     seal_as(file, (size_t)length, 1);
-    run_reads(length, fields, QPL_VERSION_1);
-    /* refused: a peak over its limit, a setting that is none */
+    if (weighted) {
+        uint64_t reading[ARGUMENTS] = {AT(file), length, AT(plan), scans, AT(answer), sizeof answer};
+        run(CALL_READ, reading, 13 | UINT64_C(13) << 32);
+    } else {
+        run_reads(length, fields, QPL_VERSION_1, 0);
+    }
+    /* refused: a mark that is none, a peak over its limit, a setting that is none */
+    writing[11] = 2;
+    run(CALL_WRITE, writing, 13 | UINT64_C(13) << 32);
+    writing[11] = weighted;
     writing[QPL_READ_PEAK] = 1048576;
     run(CALL_WRITE, writing, 13 | UINT64_C(40) << 32);
     writing[QPL_READ_PEAK] = 0;
@@ -325,12 +348,12 @@ int main(void) {
     arguments[0] = 0;
     run(CALL_ROOM, arguments, 10);
 
-    run_files(1024, 0, QPL_KIND_AVERAGE, FIBONACCI, FIBONACCI_BEFORE);
-    run_files(1024, 0, QPL_KIND_AVERAGE, FIBONACCI_BEFORE, FIBONACCI);
-    run_files(1024, 2, QPL_KIND_AVERAGE, FIBONACCI, FIBONACCI_BEFORE);
-    run_files(1008, 0, QPL_KIND_AVERAGE, 0, 1);
-    run_files(1024, 0, QPL_KIND_MINMAX, 0, 0);
-    run_files(1024, 2, QPL_KIND_MINMAX, 0, 0);
+    run_files(1024, 0, QPL_KIND_AVERAGE, FIBONACCI, FIBONACCI_BEFORE, 0);
+    run_files(1024, 0, QPL_KIND_AVERAGE, FIBONACCI_BEFORE, FIBONACCI, 0);
+    run_files(1024, 2, QPL_KIND_AVERAGE, FIBONACCI, FIBONACCI_BEFORE, 1);
+    run_files(1008, 0, QPL_KIND_AVERAGE, 0, 1, 0);
+    run_files(1024, 0, QPL_KIND_MINMAX, 0, 0, 0);
+    run_files(1024, 2, QPL_KIND_MINMAX, 0, 0, 1);
 
     fill(0);
     for (law = 0; law <= 2; law++) run_plans(1024, 16, law);
@@ -338,14 +361,27 @@ int main(void) {
         for (law = 0; law <= 2; law++) run_plans(sizes[k][0], sizes[k][1], law);
         run_lists(sizes[k][0], sizes[k][1]);
     }
+    for (k = 0; k < sizeof sizes / sizeof sizes[0]; k++) {
+        fill(0);
+        weigh(sizes[k][0], sizes[k][1]);
+        for (law = 0; law <= 2; law++) run_plans(sizes[k][0], sizes[k][1], law);
+    }
     for (k = 0; k < CELLS; k++) rates[k] = distortions[k] = 1048575;
     run_lists(1024, 16);
     expect("the longest list", qpl_value(answer, QPL_EXPORT_LENGTH) == LONGEST);
     fill(16);
     for (law = 0; law <= 2; law++) run_plans(1024, 16, law);
-    /* refused at the last cell; no sequence */
-    distortions[CELLS - 1] = 1048576;
+    weigh(1024, 16);
+    for (law = 0; law <= 2; law++) run_plans(1024, 16, law);
+    /* refused: a weight is missing; at the last cell, first by its weight alone; no sequence */
+    for (k = CALL_CEILING; k <= CALL_AVERAGE; k++) run_plan((enum call)k, 1024, 16, 0, 1, 1, 5);
+    weights[SCANS - 1] = 255;
+    for (k = CELLS - 256; k < CELLS; k++) distortions[k] = 4112;
+    distortions[CELLS - 1] = 4113;
     rates[CELLS - 1] = 0;
+    for (k = CALL_CEILING; k <= CALL_AVERAGE; k++) run_plan((enum call)k, 1024, 16, 0, 1, 1, 7 | (uint64_t)(CELLS - 1) << 32);
+    weights[SCANS - 1] = 0;
+    distortions[CELLS - 1] = 1048576;
     for (k = CALL_CEILING; k <= CALL_AVERAGE; k++) run_plan((enum call)k, 1024, 16, 0, 1, 1, 7 | (uint64_t)(CELLS - 1) << 32);
     fill(1);
     for (k = CALL_CEILING; k <= CALL_AVERAGE; k++) run_plan((enum call)k, 1024, 16, 0, 1, 1, 8);

@@ -1,10 +1,11 @@
 /* The worked tables of document 01 ("Bench tables", the "Others" too) and its room figures, lists of table T by the rules of document 02,
  * [1], table V, of which each law has another plan, by those of [2], illegal cells at every place of a table, of which the walk of [3] must
- * lose none, and plan files of both versions by the rules of [4], through the archive: of planning calls every value, every byte of every
- * buffer, and guard bytes on both sides of each; of T's files every value and every byte, the checks as numbers, and guard bytes; of lists
- * every cell and byte, and guards; of illegal cells what goes back, and that a refusal leaves every buffer as it was. What is expected is
- * written out by hand: of document 01 its own figures, of the others what the rules give. Some files that are changed here (V's, those with
- * other block numbers, and long ones) the library has written first. */
+ * lose none, plan files of both versions by the rules of [4], and table T with scans of unequal weight, its illegal cells and its files, by
+ * those of [5], through the archive: of planning calls every value, every byte of every buffer, and guard bytes on both sides of each, the
+ * weights' too, which must be as they were; of T's files every value and every byte, the checks as numbers, and guard bytes; of lists every
+ * cell and byte, and guards; of illegal cells what goes back, and that a refusal leaves every buffer as it was. What is expected is written
+ * out by hand: of document 01 its own figures, of the others what the rules give. Some files that are changed here (V's, those with other
+ * block numbers, and long ones) the library has written first. All weights are 1 but in the part of [5]. */
 #include "lent.h"
 #include "qpl.h"
 #include "seal.h"
@@ -29,6 +30,7 @@ typedef struct {
     uint64_t scans, settings, law;
     const uint32_t *rates, *distortions;
     size_t cells;
+    const uint8_t *weights;
 } table;
 
 /* A call, what it must give back, and on 0 the values and the settings that it must answer. */
@@ -43,22 +45,33 @@ typedef struct {
     uint8_t plan[4];
 } expected;
 
-static uint64_t ask(const expected *e, lent *plan, lent *scratch, lent *answer) {
+static uint64_t ask(const expected *e, const lent *weights, lent *plan, lent *scratch, lent *answer) {
     const table *t = e->t;
     switch (e->which) {
     case CEILING:
-        return qpl_ceiling(t->scans, t->settings, t->law, (uint32_t)e->limit, t->rates, t->cells, t->distortions, t->cells, plan->bytes,
-                           plan->length, scratch->bytes, scratch->length, answer->bytes, answer->length);
+        return qpl_ceiling(t->scans, t->settings, t->law, (uint32_t)e->limit, t->rates, t->cells, t->distortions, t->cells, weights->bytes,
+                           weights->length, plan->bytes, plan->length, scratch->bytes, scratch->length, answer->bytes, answer->length);
     case MULTIPLIER:
-        return qpl_multiplier(t->scans, t->settings, t->law, e->limit, e->d, t->rates, t->cells, t->distortions, t->cells, plan->bytes,
-                              plan->length, scratch->bytes, scratch->length, answer->bytes, answer->length);
+        return qpl_multiplier(t->scans, t->settings, t->law, e->limit, e->d, t->rates, t->cells, t->distortions, t->cells, weights->bytes,
+                              weights->length, plan->bytes, plan->length, scratch->bytes, scratch->length, answer->bytes, answer->length);
     case MINMAX:
-        return qpl_minmax(t->scans, t->settings, t->law, e->limit, t->rates, t->cells, t->distortions, t->cells, plan->bytes, plan->length,
-                          scratch->bytes, scratch->length, answer->bytes, answer->length);
+        return qpl_minmax(t->scans, t->settings, t->law, e->limit, t->rates, t->cells, t->distortions, t->cells, weights->bytes,
+                          weights->length, plan->bytes, plan->length, scratch->bytes, scratch->length, answer->bytes, answer->length);
     default:
-        return qpl_average(t->scans, t->settings, t->law, e->limit, t->rates, t->cells, t->distortions, t->cells, plan->bytes,
-                           plan->length, scratch->bytes, scratch->length, answer->bytes, answer->length);
+        return qpl_average(t->scans, t->settings, t->law, e->limit, t->rates, t->cells, t->distortions, t->cells, weights->bytes,
+                           weights->length, plan->bytes, plan->length, scratch->bytes, scratch->length, answer->bytes, answer->length);
     }
+}
+
+/* These weights between guard bytes, and whether they are as they were. */
+static lent lend_weights(const uint8_t *given, size_t length) {
+    lent l = lend(length, 0);
+    if (length > 0) memcpy(l.bytes, given, length);
+    return l;
+}
+
+static int weights_hold(const lent *l, const uint8_t *given) {
+    return lent_guarded(l) && (l->length == 0 || memcmp(l->bytes, given, l->length) == 0);
 }
 
 /* Every byte: as it was from `kept` on; before that the given bytes, or zeros where none are given. */
@@ -79,14 +92,16 @@ static int as_expected(const expected *e, size_t more) {
     size_t need = answer_lengths[e->which], k;
     size_t cells = (size_t)(e->t->scans * e->t->settings);
     lent plan = lend((size_t)e->t->scans + more, 13), scratch = lend(cells + more, 100), answer = lend(need + more, 50);
-    uint64_t given = ask(e, &plan, &scratch, &answer);
-    int good = qpl_refusal(given) == e->refusal && qpl_carried(given) == e->carried;
+    lent weights = lend_weights(e->t->weights, (size_t)e->t->scans);
+    uint64_t given = ask(e, &weights, &plan, &scratch, &answer);
+    int good = qpl_refusal(given) == e->refusal && qpl_carried(given) == e->carried && weights_hold(&weights, e->t->weights);
     uint8_t values[48];
     for (k = 0; k < 8 * e->count; k++) values[k] = (uint8_t)(e->values[k / 8] >> 8 * (k % 8));
     good = good && holds(&plan, e->refusal == 0 ? (size_t)e->t->scans : 0, e->plan, 13);
     good = good && holds(&scratch, e->refusal == 0 || e->refusal == 8 || e->refusal == 9 ? cells : 0, NULL, 100);
     good = good && holds(&answer, e->refusal == 0 ? need : 0, values, 50);
     good = good && (e->refusal != 0 || 8 * e->count == need);
+    give_back(&weights);
     give_back(&plan);
     give_back(&scratch);
     give_back(&answer);
@@ -107,16 +122,18 @@ static const uint32_t zeros[20] = {0};
 static const uint32_t v_rates[] = {5, 5, 5, 5, 9, 9, 4, 1, 9, 9, 9, 9, 6, 9, 9, 9, 2, 9, 9, 9};
 static const uint32_t v_distortions[] = {1, 1, 1, 1, 3, 3, 3, 3, 3, 3, 3, 3, 3, 3, 3, 3, 3, 3, 3, 3};
 
-static const table T = {2, 2, 0, t_rates, t_distortions, 6};
-static const table U = {1, 3, 0, u_rates, u_distortions, 3};
-static const table BLOCKED = {2, 2, 0, blocked_rates, t_distortions, 6};
-static const table TOP = {1, 1, 0, top, zero, 1}, OVER = {1, 1, 0, over, zero, 1}, SINGLE = {1, 1, 0, zero, zero, 1};
-static const table ZERO_TWO = {2, 4, 1, zero_two, zeros, 20}, THREE_ONE = {2, 4, 1, three_one, zeros, 20};
-static const table ZERO_THREE = {2, 4, 1, zero_three, zeros, 20};
-static const table V0 = {2, 4, 0, v_rates, v_distortions, 20}, V1 = {2, 4, 1, v_rates, v_distortions, 20};
-static const table V2 = {2, 4, 2, v_rates, v_distortions, 20}, V3 = {2, 4, 3, v_rates, v_distortions, 20};
+static const uint8_t ones[] = {1, 1};
+
+static const table T = {2, 2, 0, t_rates, t_distortions, 6, ones};
+static const table U = {1, 3, 0, u_rates, u_distortions, 3, ones};
+static const table BLOCKED = {2, 2, 0, blocked_rates, t_distortions, 6, ones};
+static const table TOP = {1, 1, 0, top, zero, 1, ones}, OVER = {1, 1, 0, over, zero, 1, ones}, SINGLE = {1, 1, 0, zero, zero, 1, ones};
+static const table ZERO_TWO = {2, 4, 1, zero_two, zeros, 20, ones}, THREE_ONE = {2, 4, 1, three_one, zeros, 20, ones};
+static const table ZERO_THREE = {2, 4, 1, zero_three, zeros, 20, ones};
+static const table V0 = {2, 4, 0, v_rates, v_distortions, 20, ones}, V1 = {2, 4, 1, v_rates, v_distortions, 20, ones};
+static const table V2 = {2, 4, 2, v_rates, v_distortions, 20, ones}, V3 = {2, 4, 3, v_rates, v_distortions, 20, ones};
 /* A number of which the low 32 bits are a law. */
-static const table WIDE = {2, 4, (UINT64_C(1) << 32) + 2, v_rates, v_distortions, 20};
+static const table WIDE = {2, 4, (UINT64_C(1) << 32) + 2, v_rates, v_distortions, 20, ones};
 
 static const expected all[] = {
     {"P1 T, average 18", &T, AVERAGE, 18, 0, 0, 0, 6, {0, 1, 18, 5, 3, 5}, {0, 0}},
@@ -165,47 +182,50 @@ static const expected all[] = {
     {"V, law 2^32 + 2, average 7", &WIDE, AVERAGE, 7, 0, 3, 0, 0, {0}, {0}},
 };
 
-/* Table T with two of its rates and a distortion changed (a change to what stands there changes nothing), and what every planning call and an
- * export must give back: 7 at the lowest illegal cell of both tables, or 0 where all are legal. */
+/* Table T with two of its rates and a distortion changed (a change to what stands there changes nothing), its weights, and what every planning
+ * call must give back: 7 at the lowest illegal cell of both tables, or 0 where all are legal; and what an export must, which has no weights. */
 typedef struct {
     const char *what;
     size_t rate_at, second_at, distortion_at;
     uint32_t rate, second, distortion;
     uint64_t right;
+    uint8_t weights[2];
+    uint64_t listed;
 } changed_cells;
 
 #define SEVEN(cell) (7 | (uint64_t)(cell) << 32)
 static const changed_cells changes[] = {
-    {"rate 3 and distortion 2 over the range: 7, at 2", 3, 4, 2, 1048576, 9, 1048576, SEVEN(2)},
-    {"a distortion of any value beside forbidden rate 2, rate 5 nearly the marker: 7, at 5", 2, 5, 2, F, F - 1, F, SEVEN(5)},
-    {"rate and distortion 4 over the range: 7, at 4", 4, 5, 4, 1048576, 5, 1048576, SEVEN(4)},
-    {"distortion 5 over the range: 7, at 5", 0, 1, 5, 10, 4, 1048576, SEVEN(5)},
-    {"rate 0 and distortion 0 over the range: 7, at 0", 0, 1, 0, 1048576, 4, 1048576, SEVEN(0)},
-    {"rates 1 and 4 over the range, distortion 5 too: 7, at 1", 1, 4, 5, 1048576, F - 1, F, SEVEN(1)},
-    {"a distortion of any value beside forbidden rate 0: all legal", 0, 1, 0, F, 4, F, 0},
-    {"cells at the top of their range: all legal", 3, 4, 5, 1048575, 1048575, 1048575, 0},
+    {"rate 3 and distortion 2 over the range: 7, at 2", 3, 4, 2, 1048576, 9, 1048576, SEVEN(2), {1, 1}, SEVEN(2)},
+    {"a distortion of any value beside forbidden rate 2, rate 5 nearly the marker: 7, at 5", 2, 5, 2, F, F - 1, F, SEVEN(5), {1, 1}, SEVEN(5)},
+    {"rate and distortion 4 over the range: 7, at 4", 4, 5, 4, 1048576, 5, 1048576, SEVEN(4), {1, 1}, SEVEN(4)},
+    {"distortion 5 over the range: 7, at 5", 0, 1, 5, 10, 4, 1048576, SEVEN(5), {1, 1}, SEVEN(5)},
+    {"rate 0 and distortion 0 over the range: 7, at 0", 0, 1, 0, 1048576, 4, 1048576, SEVEN(0), {1, 1}, SEVEN(0)},
+    {"rates 1 and 4 over the range, distortion 5 too: 7, at 1", 1, 4, 5, 1048576, F - 1, F, SEVEN(1), {1, 1}, SEVEN(1)},
+    {"a distortion of any value beside forbidden rate 0: all legal", 0, 1, 0, F, 4, F, 0, {1, 1}, 0},
+    {"cells at the top of their range: all legal", 3, 4, 5, 1048575, 1048575, 1048575, 0, {1, 1}, 0},
 };
 
 static int named_by_every_call(const changed_cells *c) {
     uint32_t rates[6], distortions[6];
-    table t = {2, 2, 0, rates, distortions, 6};
+    table t = {2, 2, 0, rates, distortions, 6, c->weights};
     lent text = lend(128, 13), length = lend(QPL_EXPORT_ANSWER, 50);
     int which, good = 1;
     memcpy(rates, t_rates, sizeof rates);
     memcpy(distortions, t_distortions, sizeof distortions);
     rates[c->rate_at] = c->rate, rates[c->second_at] = c->second, distortions[c->distortion_at] = c->distortion;
     for (which = CEILING; which <= AVERAGE; which++) {
-        lent plan = lend(2, 13), scratch = lend(4, 100), answer = lend(answer_lengths[which], 50);
+        lent plan = lend(2, 13), scratch = lend(4, 100), answer = lend(answer_lengths[which], 50), weights = lend_weights(t.weights, 2);
         expected e = {c->what, &t, (enum call)which, 4294967295, 1, 0, 0, 0, {0}, {0}};
         e.limit = which == MULTIPLIER ? 1 : e.limit;
-        good = good && ask(&e, &plan, &scratch, &answer) == c->right;
+        good = good && ask(&e, &weights, &plan, &scratch, &answer) == c->right && weights_hold(&weights, t.weights);
         good = good && (c->right == 0 || (holds(&plan, 0, NULL, 13) && holds(&scratch, 0, NULL, 100) && holds(&answer, 0, NULL, 50)));
+        give_back(&weights);
         give_back(&plan);
         give_back(&scratch);
         give_back(&answer);
     }
-    good = good && qpl_export(2, 2, rates, 6, distortions, 6, text.bytes, text.length, length.bytes, length.length) == c->right;
-    good = good && (c->right == 0 || (holds(&text, 0, NULL, 13) && holds(&length, 0, NULL, 50)));
+    good = good && qpl_export(2, 2, rates, 6, distortions, 6, text.bytes, text.length, length.bytes, length.length) == c->listed;
+    good = good && (c->listed == 0 || (holds(&text, 0, NULL, 13) && holds(&length, 0, NULL, 50)));
     give_back(&text);
     give_back(&length);
     return good;
@@ -217,7 +237,9 @@ static int every_cell(uint64_t scans, uint64_t settings) {
     size_t cells = (size_t)(settings + (scans - 1) * settings * settings), k;
     uint32_t *rates = (uint32_t *)malloc(4 * cells), *distortions = (uint32_t *)malloc(4 * cells);
     lent plan = lend((size_t)scans, 13), scratch = lend((size_t)(scans * settings), 100), answer = lend(QPL_CEILING_ANSWER, 50);
+    lent weights = lend((size_t)scans, 0);
     int turn, good = rates != NULL && distortions != NULL;
+    memset(weights.bytes, 1, weights.length);
     for (k = 0; good && k < cells; k++) rates[k] = 1048575 - (uint32_t)k, distortions[k] = (uint32_t)k % 7;
     for (k = 0; good && k < cells; k++)
         for (turn = 0; turn < 4; turn++) {
@@ -226,13 +248,14 @@ static int every_cell(uint64_t scans, uint64_t settings) {
             behind = turn >= 2 && k + 1 < cells ? behind + k + 1 : &next;
             next = *behind;
             *here = 1048576 + (uint32_t)k, *behind = 1048576;
-            good = good && qpl_ceiling(scans, settings, 1, 9, rates, cells, distortions, cells, plan.bytes, plan.length, scratch.bytes,
-                                       scratch.length, answer.bytes, answer.length) == SEVEN(k);
+            good = good && qpl_ceiling(scans, settings, 1, 9, rates, cells, distortions, cells, weights.bytes, weights.length, plan.bytes,
+                                       plan.length, scratch.bytes, scratch.length, answer.bytes, answer.length) == SEVEN(k);
             *behind = next, *here = cell;
         }
-    good = good && holds(&plan, 0, NULL, 13) && holds(&scratch, 0, NULL, 100) && holds(&answer, 0, NULL, 50);
-    good = good && qpl_ceiling(scans, settings, 1, 9, rates, cells, distortions, cells, plan.bytes, plan.length, scratch.bytes,
-                               scratch.length, answer.bytes, answer.length) == 0;
+    good = good && holds(&plan, 0, NULL, 13) && holds(&scratch, 0, NULL, 100) && holds(&answer, 0, NULL, 50) && lent_guarded(&weights);
+    good = good && qpl_ceiling(scans, settings, 1, 9, rates, cells, distortions, cells, weights.bytes, weights.length, plan.bytes, plan.length,
+                               scratch.bytes, scratch.length, answer.bytes, answer.length) == 0;
+    give_back(&weights);
     give_back(&plan);
     give_back(&scratch);
     give_back(&answer);
@@ -262,7 +285,7 @@ static int allowed_by(uint64_t law, const char *right) {
         for (q = 0; q < 4; q++) {
             uint64_t given;
             for (k = 0; k < 20; k++) rates[k] = k == p || k == 4 + 4 * p + q ? 1 : F;
-            given = qpl_ceiling(2, 4, law, UINT32_MAX, rates, 20, zeros, 20, plan, 2, scratch, 8, answer, sizeof answer);
+            given = qpl_ceiling(2, 4, law, UINT32_MAX, rates, 20, zeros, 20, ones, 2, plan, 2, scratch, 8, answer, sizeof answer);
             if (right[4 * p + q] != 'y') {
                 if (given != 8) return -1;
             } else {
@@ -293,20 +316,20 @@ static int room_refused(uint64_t channels, uint64_t scans, uint64_t settings, si
 static void named(void) {
     uint8_t plan[2] = {0}, scratch[4] = {0}, answer[QPL_AVERAGE_ANSWER] = {0};
     expect("the names end where the answers do",
-           8 * (QPL_ROOM_SCRATCH + 1) == QPL_ROOM_ANSWER && 8 * (QPL_READ_VERSION + 1) == QPL_READ_ANSWER &&
+           8 * (QPL_ROOM_SCRATCH + 1) == QPL_ROOM_ANSWER && 8 * (QPL_READ_WEIGHTED + 1) == QPL_READ_ANSWER &&
                8 * (QPL_CEILING_PEAK + 1) == QPL_CEILING_ANSWER && 8 * (QPL_MULTIPLIER_PEAK + 1) == QPL_MULTIPLIER_ANSWER &&
                8 * (QPL_MINMAX_PEAK + 1) == QPL_MINMAX_ANSWER && 8 * (QPL_AVERAGE_FLOOR + 1) == QPL_AVERAGE_ANSWER &&
                8 * (QPL_EXPORT_LENGTH + 1) == QPL_EXPORT_ANSWER);
-    qpl_ceiling(2, 2, 0, 7, t_rates, 6, t_distortions, 6, plan, 2, scratch, 4, answer, sizeof answer);
+    qpl_ceiling(2, 2, 0, 7, t_rates, 6, t_distortions, 6, ones, 2, plan, 2, scratch, 4, answer, sizeof answer);
     expect("T, ceiling 7, by name", qpl_value(answer, QPL_CEILING_RATE) == 13 && qpl_value(answer, QPL_CEILING_DISTORTION) == 8 &&
                                         qpl_value(answer, QPL_CEILING_PEAK) == 6);
-    qpl_multiplier(2, 2, 0, 9, 4, t_rates, 6, t_distortions, 6, plan, 2, scratch, 4, answer, sizeof answer);
+    qpl_multiplier(2, 2, 0, 9, 4, t_rates, 6, t_distortions, 6, ones, 2, plan, 2, scratch, 4, answer, sizeof answer);
     expect("T, multiplier 9/4, by name", qpl_value(answer, QPL_MULTIPLIER_RATE) == 9 && qpl_value(answer, QPL_MULTIPLIER_DISTORTION) == 17 &&
                                              qpl_value(answer, QPL_MULTIPLIER_PEAK) == 10);
-    qpl_minmax(2, 2, 0, 17, t_rates, 6, t_distortions, 6, plan, 2, scratch, 4, answer, sizeof answer);
+    qpl_minmax(2, 2, 0, 17, t_rates, 6, t_distortions, 6, ones, 2, plan, 2, scratch, 4, answer, sizeof answer);
     expect("T, minmax 17, by name", qpl_value(answer, QPL_MINMAX_CEILING) == 6 && qpl_value(answer, QPL_MINMAX_RATE) == 13 &&
                                         qpl_value(answer, QPL_MINMAX_DISTORTION) == 8 && qpl_value(answer, QPL_MINMAX_PEAK) == 6);
-    qpl_average(2, 2, 0, 12, t_rates, 6, t_distortions, 6, plan, 2, scratch, 4, answer, sizeof answer);
+    qpl_average(2, 2, 0, 12, t_rates, 6, t_distortions, 6, ones, 2, plan, 2, scratch, 4, answer, sizeof answer);
     expect("T, average 12, by name", qpl_value(answer, QPL_AVERAGE_N) == 9 && qpl_value(answer, QPL_AVERAGE_D) == 4 &&
                                          qpl_value(answer, QPL_AVERAGE_RATE) == 9 && qpl_value(answer, QPL_AVERAGE_DISTORTION) == 17 &&
                                          qpl_value(answer, QPL_AVERAGE_PEAK) == 10 && qpl_value(answer, QPL_AVERAGE_FLOOR) == 11);
@@ -315,16 +338,16 @@ static void named(void) {
 /* T's average plan for 17 to a file and back, with buffers of exactly the needed size; and a changed byte. */
 static void files(void) {
     static const uint8_t settings[] = {0, 1};
-    static const uint64_t fields[] = {2, 2, 0, 0, 17, 3, 5, 13, 8, 6, 6, QPL_VERSION_2};
+    static const uint64_t fields[] = {2, 2, 0, 0, 17, 3, 5, 13, 8, 6, 6, QPL_VERSION_2, 0};
     lent file = lend(1024, 13), plan = lend(2, 13), answer = lend(QPL_READ_ANSWER, 50);
     int k, good = 1;
     expect("T, average 17: written",
-           qpl_write(2, 2, 0, QPL_KIND_AVERAGE, 17, 3, 5, 13, 8, 6, 6, settings, 2, file.bytes, file.length) == 0 && lent_guarded(&file) &&
+           qpl_write(2, 2, 0, QPL_KIND_AVERAGE, 17, 3, 5, 13, 8, 6, 6, 0, settings, 2, file.bytes, file.length) == 0 && lent_guarded(&file) &&
                memcmp(file.bytes + 4, "QPL2", 4) == 0 && file.bytes[516] == 0x10);
     expect("T, average 17: read", qpl_read(file.bytes, file.length, plan.bytes, plan.length, answer.bytes, answer.length) == 0 &&
                                       holds(&plan, 2, settings, 13) && lent_guarded(&answer));
-    for (k = 0; k < 12; k++) good = good && qpl_value(answer.bytes, (size_t)k) == fields[k];
-    expect("T, average 17: the fields that were written, and the version", good);
+    for (k = 0; k < 13; k++) good = good && qpl_value(answer.bytes, (size_t)k) == fields[k];
+    expect("T, average 17: the fields that were written, the version, and no mark", good);
     give_back(&plan);
     give_back(&answer);
     plan = lend(2, 13);
@@ -336,17 +359,19 @@ static void files(void) {
     file.bytes[600]--;
     expect("a plan buffer of one byte: refused 6",
            qpl_read(file.bytes, file.length, plan.bytes, 1, answer.bytes, answer.length) == 6 && holds(&plan, 0, NULL, 13));
-    expect("an answer buffer of 95 bytes: refused 6",
-           qpl_read(file.bytes, file.length, plan.bytes, plan.length, answer.bytes, 95) == 6 && holds(&plan, 0, NULL, 13));
+    expect("an answer buffer of 103 bytes, or of the 96 of before: refused 6",
+           qpl_read(file.bytes, file.length, plan.bytes, plan.length, answer.bytes, 103) == 6 &&
+               qpl_read(file.bytes, file.length, plan.bytes, plan.length, answer.bytes, 96) == 6 && holds(&plan, 0, NULL, 13) &&
+               holds(&answer, 0, NULL, 50));
     expect("no file: refused 11", qpl_read(NULL, 0, plan.bytes, plan.length, answer.bytes, answer.length) == 11);
     give_back(&file);
     file = lend(1024, 13);
     expect("a rate above B: refused 13, at 32",
-           qpl_write(2, 2, 0, QPL_KIND_AVERAGE, 12, 3, 5, 13, 8, 6, 6, settings, 2, file.bytes, file.length) ==
+           qpl_write(2, 2, 0, QPL_KIND_AVERAGE, 12, 3, 5, 13, 8, 6, 6, 0, settings, 2, file.bytes, file.length) ==
                    (13 | (uint64_t)32 << 32) &&
                holds(&file, 0, NULL, 13));
     expect("a file buffer of 1,023 bytes: refused 6",
-           qpl_write(2, 2, 0, QPL_KIND_AVERAGE, 17, 3, 5, 13, 8, 6, 6, settings, 2, file.bytes, 1023) == 6 && holds(&file, 0, NULL, 13));
+           qpl_write(2, 2, 0, QPL_KIND_AVERAGE, 17, 3, 5, 13, 8, 6, 6, 0, settings, 2, file.bytes, 1023) == 6 && holds(&file, 0, NULL, 13));
     give_back(&file);
     give_back(&plan);
     give_back(&answer);
@@ -408,7 +433,7 @@ static void make(const expected_file *e, uint8_t *file) {
 
 /* Where there is no room, what is right otherwise is refused with 6; what is not keeps its refusal. */
 static int reads(const expected_file *e, size_t plan_length, size_t answer_length) {
-    uint64_t fields[12] = {0, 2, 0, QPL_KIND_AVERAGE, 17, 3, 5, 13, 8, 6, 6, 0};
+    uint64_t fields[13] = {0, 2, 0, QPL_KIND_AVERAGE, 17, 3, 5, 13, 8, 6, 6, 0, 0};
     uint64_t right = e->right == 0 && (plan_length < e->scans || answer_length < QPL_READ_ANSWER) ? 6 : e->right;
     uint8_t file[2 * BLOCK], values[QPL_READ_ANSWER];
     lent plan = lend(plan_length, 13), answer = lend(answer_length, 50);
@@ -429,7 +454,7 @@ static int reads(const expected_file *e, size_t plan_length, size_t answer_lengt
 static int writes(const expected_file *e, size_t more) {
     uint8_t file[2 * BLOCK];
     lent written = lend(sizeof file + more, 13);
-    int good = qpl_write(e->scans, 2, e->law, QPL_KIND_AVERAGE, 17, 3, 5, 13, 8, 6, 6, e->plan, e->scans, written.bytes,
+    int good = qpl_write(e->scans, 2, e->law, QPL_KIND_AVERAGE, 17, 3, 5, 13, 8, 6, 6, 0, e->plan, e->scans, written.bytes,
                          written.length) == 0;
     make(e, file);
     good = good && holds(&written, sizeof file, file, 13);
@@ -475,7 +500,7 @@ static int all_letters(void) {
 static int both_read(uint64_t scans, const uint8_t *settings, const uint32_t *checks) {
     size_t length = scans > 1008 ? 3 * BLOCK : 2 * BLOCK, at;
     lent file = lend(length, 13);
-    int version, good = qpl_write(scans, 16, 0, QPL_KIND_MINMAX, 7, 0, 0, 7, 4, 3, 0, settings, (size_t)scans, file.bytes, length) == 0;
+    int version, good = qpl_write(scans, 16, 0, QPL_KIND_MINMAX, 7, 0, 0, 7, 4, 3, 0, 0, settings, (size_t)scans, file.bytes, length) == 0;
     good = good && lent_guarded(&file);
     for (at = BLOCK; at < length; at += BLOCK) {
         uint8_t block[BLOCK];
@@ -499,7 +524,7 @@ static int both_read(uint64_t scans, const uint8_t *settings, const uint32_t *ch
  * block in both versions. The check shows a changed number, but not a block with another number from the start. */
 static int all_numbers(const uint8_t *settings) {
     lent file = lend(3 * BLOCK, 13), plan = lend(1024, 13), answer = lend(QPL_READ_ANSWER, 50);
-    int version, by, good = qpl_write(1024, 16, 0, QPL_KIND_MINMAX, 7, 0, 0, 7, 4, 3, 0, settings, 1024, file.bytes, file.length) == 0;
+    int version, by, good = qpl_write(1024, 16, 0, QPL_KIND_MINMAX, 7, 0, 0, 7, 4, 3, 0, 0, settings, 1024, file.bytes, file.length) == 0;
     size_t at;
     for (version = 1; version <= 2; version++)
         for (at = 0; at < file.length; at += at % BLOCK == 3 ? BLOCK - 3 : 1)
@@ -591,9 +616,9 @@ static int filed(uint64_t law, uint8_t first, uint8_t second, uint64_t rate, uin
     lent file = lend(1024, 13), written = lend(1024, 13);
     int good;
     settings[0] = first, settings[1] = second;
-    good = qpl_write(2, 4, 0, QPL_KIND_MINMAX, 7, 0, 0, rate, 4, 3, 0, settings, 2, file.bytes, file.length) == 0 && lent_guarded(&file);
+    good = qpl_write(2, 4, 0, QPL_KIND_MINMAX, 7, 0, 0, rate, 4, 3, 0, 0, settings, 2, file.bytes, file.length) == 0 && lent_guarded(&file);
     put(&file, 11, (uint8_t)law);
-    good = good && qpl_write(2, 4, law, QPL_KIND_MINMAX, 7, 0, 0, rate, 4, 3, 0, settings, 2, written.bytes, written.length) == right;
+    good = good && qpl_write(2, 4, law, QPL_KIND_MINMAX, 7, 0, 0, rate, 4, 3, 0, 0, settings, 2, written.bytes, written.length) == right;
     good = good && holds(&written, right == 0 ? 1024 : 0, file.bytes, 13);
     good = good && read_in_both(&file, settings, law, right);
     give_back(&file);
@@ -617,15 +642,355 @@ static void laws(void) {
     expect("law 3, a file of 3 0: refused 13, at 11", filed(3, 3, 0, 7, at_law));
     expect("law 255, a file of 3 0: refused 13, at 11", filed(255, 3, 0, 7, at_law));
     expect("law 2^32 + 2: not written",
-           qpl_write(2, 4, (UINT64_C(1) << 32) + 2, QPL_KIND_MINMAX, 7, 0, 0, 7, 4, 3, 0, settings, 2, file.bytes, file.length) == at_law &&
+           qpl_write(2, 4, (UINT64_C(1) << 32) + 2, QPL_KIND_MINMAX, 7, 0, 0, 7, 4, 3, 0, 0, settings, 2, file.bytes, file.length) == at_law &&
                holds(&file, 0, NULL, 13));
-    expect("law 2, kind 2: not written", qpl_write(2, 4, 2, 2, 7, 0, 0, 7, 4, 3, 0, settings, 2, file.bytes, file.length) == at_kind &&
+    expect("law 2, kind 2: not written", qpl_write(2, 4, 2, 2, 7, 0, 0, 7, 4, 3, 0, 0, settings, 2, file.bytes, file.length) == at_kind &&
                                              holds(&file, 0, NULL, 13));
     expect("law 2, kind 1: written",
-           qpl_write(2, 4, 2, QPL_KIND_MINMAX, 7, 0, 0, 7, 4, 3, 0, settings, 2, file.bytes, file.length) == 0 && lent_guarded(&file));
+           qpl_write(2, 4, 2, QPL_KIND_MINMAX, 7, 0, 0, 7, 4, 3, 0, 0, settings, 2, file.bytes, file.length) == 0 && lent_guarded(&file));
     put(&file, 12, 2);
     expect("law 2, kind 2: refused 13, at 12", read_in_both(&file, settings, 2, at_kind));
     give_back(&file);
+}
+
+/* Table T under law 1, with weights. */
+static const uint8_t w_21[] = {2, 1}, w_12[] = {1, 2}, w_01[] = {0, 1}, w_10[] = {1, 0}, w_00[] = {0, 0}, w_most[] = {255, 255};
+static const table T_11 = {2, 2, 1, t_rates, t_distortions, 6, ones}, T_21 = {2, 2, 1, t_rates, t_distortions, 6, w_21};
+static const table T_12 = {2, 2, 1, t_rates, t_distortions, 6, w_12}, T_01 = {2, 2, 1, t_rates, t_distortions, 6, w_01};
+static const table T_10 = {2, 2, 1, t_rates, t_distortions, 6, w_10}, T_00 = {2, 2, 1, t_rates, t_distortions, 6, w_00};
+static const table T_MOST = {2, 2, 1, t_rates, t_distortions, 6, w_most};
+/* Distortion 3 changed: the most that weight 2 allows; over that, where the weight is 1; the most that a cell can have, where it is 0; and any
+ * value, beside a forbidden rate, where the weight is the greatest. */
+static const uint32_t half[] = {2, 7, 3, 524287, 4, 10}, large[] = {2, 7, 3, 600000, 4, 10}, largest[] = {2, 7, 3, 1048575, 4, 10};
+static const uint32_t any[] = {2, 7, 3, F, 4, 10}, without_3[] = {10, 4, 8, F, 9, 5};
+static const table HALF = {2, 2, 1, t_rates, half, 6, w_12}, LARGE = {2, 2, 1, t_rates, large, 6, w_21};
+static const table LARGEST = {2, 2, 1, t_rates, largest, 6, w_10}, ANY = {2, 2, 1, without_3, any, 6, w_most};
+
+static const expected weighed[] = {
+    {"T, weights 1 1, law 1, average 17", &T_11, AVERAGE, 17, 0, 0, 0, 6, {3, 5, 13, 8, 6, 6}, {0, 1}},
+    {"T, weights 1 1, law 1, average 12", &T_11, AVERAGE, 12, 0, 0, 0, 6, {9, 4, 9, 17, 10, 11}, {1, 1}},
+    {"T, weights 2 1, average 18", &T_21, AVERAGE, 18, 0, 0, 0, 6, {0, 1, 18, 7, 3, 7}, {0, 0}},
+    {"T, weights 2 1, average 17", &T_21, AVERAGE, 17, 0, 0, 0, 6, {3, 5, 13, 10, 6, 8}, {0, 1}},
+    {"T, weights 2 1, average 13", &T_21, AVERAGE, 13, 0, 0, 0, 6, {3, 5, 13, 10, 6, 10}, {0, 1}},
+    {"T, weights 2 1, average 12", &T_21, AVERAGE, 12, 0, 0, 0, 6, {7, 2, 9, 24, 10, 14}, {1, 1}},
+    {"T, weights 2 1, average 9", &T_21, AVERAGE, 9, 0, 0, 0, 6, {7, 2, 9, 24, 10, 24}, {1, 1}},
+    {"T, weights 2 1, average 8", &T_21, AVERAGE, 8, 0, 9, 0, 0, {0}, {0}},
+    {"T, weights 2 1, ceiling 7", &T_21, CEILING, 7, 0, 0, 0, 3, {13, 10, 6}, {0, 1}},
+    {"T, weights 2 1, ceiling 2", &T_21, CEILING, 2, 0, 9, 0, 0, {0}, {0}},
+    {"T, weights 2 1, minmax 13", &T_21, MINMAX, 13, 0, 0, 0, 4, {6, 13, 10, 6}, {0, 1}},
+    {"T, weights 2 1, minmax 12", &T_21, MINMAX, 12, 0, 0, 0, 4, {10, 9, 24, 10}, {1, 1}},
+    {"T, weights 2 1, multiplier 9/4", &T_21, MULTIPLIER, 9, 4, 0, 0, 3, {13, 10, 6}, {0, 1}},
+    {"T, weights 2 1, multiplier 7/2", &T_21, MULTIPLIER, 7, 2, 0, 0, 3, {9, 24, 10}, {1, 1}},
+    {"T, weights 1 2, average 17", &T_12, AVERAGE, 17, 0, 0, 0, 6, {6, 5, 13, 14, 6, 10}, {0, 1}},
+    {"T, weights 1 2, average 12", &T_12, AVERAGE, 12, 0, 0, 0, 6, {13, 4, 9, 27, 10, 18}, {1, 1}},
+    {"T, weights 0 1, average 18", &T_01, AVERAGE, 18, 0, 0, 0, 6, {0, 1, 18, 3, 3, 3}, {0, 0}},
+    {"T, weights 0 1, average 17", &T_01, AVERAGE, 17, 0, 0, 0, 6, {1, 5, 13, 4, 7, 4}, {1, 0}},
+    {"T, weights 0 1, average 13", &T_01, AVERAGE, 13, 0, 0, 0, 6, {1, 5, 13, 4, 7, 4}, {1, 0}},
+    {"T, weights 0 1, average 12", &T_01, AVERAGE, 12, 0, 0, 0, 6, {3, 2, 9, 10, 10, 6}, {1, 1}},
+    {"T, weights 0 1, ceiling 7", &T_01, CEILING, 7, 0, 0, 0, 3, {13, 4, 7}, {1, 0}},
+    {"T, weights 0 1, ceiling 6", &T_01, CEILING, 6, 0, 0, 0, 3, {13, 6, 6}, {0, 1}},
+    {"T, weights 0 1, minmax 13", &T_01, MINMAX, 13, 0, 0, 0, 4, {6, 13, 6, 6}, {0, 1}},
+    {"T, weights 0 1, multiplier 1/5", &T_01, MULTIPLIER, 1, 5, 0, 0, 3, {13, 4, 7}, {1, 0}},
+    {"T, weights 0 1, multiplier 0/1", &T_01, MULTIPLIER, 0, 1, 0, 0, 3, {18, 3, 3}, {0, 0}},
+    {"T, weights 1 0, average 18", &T_10, AVERAGE, 18, 0, 0, 0, 6, {0, 1, 13, 2, 6, 2}, {0, 1}},
+    {"T, weights 1 0, average 13", &T_10, AVERAGE, 13, 0, 0, 0, 6, {0, 1, 13, 2, 6, 2}, {0, 1}},
+    {"T, weights 1 0, average 12", &T_10, AVERAGE, 12, 0, 0, 0, 6, {5, 4, 9, 7, 10, 4}, {1, 1}},
+    {"T, weights 1 0, average 9", &T_10, AVERAGE, 9, 0, 0, 0, 6, {5, 4, 9, 7, 10, 7}, {1, 1}},
+    {"T, weights 1 0, ceiling 5", &T_10, CEILING, 5, 0, 0, 0, 3, {18, 2, 3}, {0, 0}},
+    {"T, weights 1 0, minmax 18", &T_10, MINMAX, 18, 0, 0, 0, 4, {3, 18, 2, 3}, {0, 0}},
+    {"T, weights 1 0, multiplier 0/1", &T_10, MULTIPLIER, 0, 1, 0, 0, 3, {13, 2, 6}, {0, 1}},
+    {"T, weights 0 0, average 2^64 - 1", &T_00, AVERAGE, UINT64_MAX, 0, 0, 0, 6, {0, 1, 9, 0, 10, 0}, {1, 1}},
+    {"T, weights 0 0, average 18", &T_00, AVERAGE, 18, 0, 0, 0, 6, {0, 1, 9, 0, 10, 0}, {1, 1}},
+    {"T, weights 0 0, average 13", &T_00, AVERAGE, 13, 0, 0, 0, 6, {0, 1, 9, 0, 10, 0}, {1, 1}},
+    {"T, weights 0 0, average 9", &T_00, AVERAGE, 9, 0, 0, 0, 6, {0, 1, 9, 0, 10, 0}, {1, 1}},
+    {"T, weights 0 0, average 8", &T_00, AVERAGE, 8, 0, 9, 0, 0, {0}, {0}},
+    {"T, weights 0 0, ceiling 7", &T_00, CEILING, 7, 0, 0, 0, 3, {13, 0, 6}, {0, 1}},
+    {"T, weights 0 0, ceiling 2", &T_00, CEILING, 2, 0, 9, 0, 0, {0}, {0}},
+    {"T, weights 0 0, minmax 18", &T_00, MINMAX, 18, 0, 0, 0, 4, {3, 18, 0, 3}, {0, 0}},
+    {"T, weights 0 0, minmax 9", &T_00, MINMAX, 9, 0, 0, 0, 4, {10, 9, 0, 10}, {1, 1}},
+    {"T, weights 0 0, multiplier 0/1", &T_00, MULTIPLIER, 0, 1, 0, 0, 3, {9, 0, 10}, {1, 1}},
+    {"T, weights 255 255, average 17", &T_MOST, AVERAGE, 17, 0, 0, 0, 6, {153, 1, 13, 2040, 6, 1428}, {0, 1}},
+    {"T, weights 255 255, average 12", &T_MOST, AVERAGE, 12, 0, 0, 0, 6, {2295, 4, 9, 4335, 10, 2614}, {1, 1}},
+    {"T, weights 255 255, ceiling 7", &T_MOST, CEILING, 7, 0, 0, 0, 3, {13, 2040, 6}, {0, 1}},
+    {"T, weights 1 2, distortion 3 at 524,287: average 13", &HALF, AVERAGE, 13, 0, 0, 0, 6, {7, 5, 13, 15, 7, 15}, {1, 0}},
+    {"T, weights 2 1, distortion 3 at 600,000: average 12", &LARGE, AVERAGE, 12, 0, 0, 0, 6, {17, 9, 9, 24, 10, 19}, {1, 1}},
+    {"T, weights 2 1, distortion 3 at 600,000: minmax 13", &LARGE, MINMAX, 13, 0, 0, 0, 4, {7, 13, 18, 7}, {1, 0}},
+    {"T, weights 1 0, distortion 3 at 1,048,575: average 13", &LARGEST, AVERAGE, 13, 0, 0, 0, 6, {0, 1, 13, 2, 1048575, 2}, {0, 1}},
+    {"T, weights 1 0, distortion 3 at 1,048,575: minmax 13", &LARGEST, MINMAX, 13, 0, 0, 0, 4, {7, 13, 7, 7}, {1, 0}},
+    {"T, weights 255 255, cell 3 forbidden, with 4,294,967,295 beside it: average 17", &ANY, AVERAGE, 17, 0, 0, 0, 6,
+     {306, 1, 13, 2805, 7, 1581}, {1, 0}},
+    {"T, weights 255 255, cell 3 forbidden, with 4,294,967,295 beside it: minmax 13", &ANY, MINMAX, 13, 0, 0, 0, 4, {7, 13, 2805, 7}, {1, 0}},
+};
+
+static const changed_cells weighed_changes[] = {
+    {"weights 1 2, distortion 3 at 600,000: 7, at 3", 0, 1, 3, 10, 4, 600000, SEVEN(3), {1, 2}, 0},
+    {"weights 2 1, distortion 3 at 600,000: all legal", 0, 1, 3, 10, 4, 600000, 0, {2, 1}, 0},
+    {"weights 1 2, distortion 3 at 524,287: all legal", 0, 1, 3, 10, 4, 524287, 0, {1, 2}, 0},
+    {"weights 1 2, distortion 3 at 524,288: 7, at 3", 0, 1, 3, 10, 4, 524288, SEVEN(3), {1, 2}, 0},
+    {"weights 2 1, distortion 1 at 524,287: all legal", 0, 1, 1, 10, 4, 524287, 0, {2, 1}, 0},
+    {"weights 2 1, distortion 1 at 524,288: 7, at 1", 0, 1, 1, 10, 4, 524288, SEVEN(1), {2, 1}, 0},
+    {"weights 2 1, distortion 2 at 1,048,575: all legal", 0, 1, 2, 10, 4, 1048575, 0, {2, 1}, 0},
+    {"weights 3 1, distortion 0 at 349,525, three times which is 1,048,575: all legal", 0, 1, 0, 10, 4, 349525, 0, {3, 1}, 0},
+    {"weights 3 1, distortion 0 at 349,526: 7, at 0", 0, 1, 0, 10, 4, 349526, SEVEN(0), {3, 1}, 0},
+    {"weights 1 255, distortion 5 at 4,112: all legal", 0, 1, 5, 10, 4, 4112, 0, {1, 255}, 0},
+    {"weights 1 255, distortion 5 at 4,113: 7, at 5", 0, 1, 5, 10, 4, 4113, SEVEN(5), {1, 255}, 0},
+    {"weights 0 1, distortion 0 at 1,048,575: all legal", 0, 1, 0, 10, 4, 1048575, 0, {0, 1}, 0},
+    {"weights 0 1, distortion 0 at 1,048,576: 7, at 0", 0, 1, 0, 10, 4, 1048576, SEVEN(0), {0, 1}, SEVEN(0)},
+    {"weights 1 0, distortion 5 at 1,048,576: 7, at 5", 0, 1, 5, 10, 4, 1048576, SEVEN(5), {1, 0}, SEVEN(5)},
+    {"weights 0 0, distortion 3 at 4,294,967,295: 7, at 3", 0, 1, 3, 10, 4, F, SEVEN(3), {0, 0}, SEVEN(3)},
+    {"weights 2 1, distortion 0 at 2^31, twice which has 32 low bits of 0: 7, at 0", 0, 1, 0, 10, 4, UINT32_C(1) << 31, SEVEN(0), {2, 1},
+     SEVEN(0)},
+    {"weights 1 255, distortion 4 at 16,843,010, 255 times which is 2^32 + 254: 7, at 4", 0, 1, 4, 10, 4, 16843010, SEVEN(4), {1, 255},
+     SEVEN(4)},
+    {"weights 255 255, 4,294,967,295 beside forbidden rate 3: all legal", 3, 1, 3, F, 4, F, 0, {255, 255}, 0},
+    {"weights 255 255, 4,294,967,295 beside forbidden rate 0: all legal", 0, 1, 0, F, 4, F, 0, {255, 255}, 0},
+    {"weights 255 255, 4,113 beside forbidden rate 5: all legal", 5, 1, 5, F, 4, 4113, 0, {255, 255}, 0},
+    {"weights 1 2, distortion 3 at 524,288 before rate 4 over the range: 7, at 3", 4, 1, 3, 1048576, 4, 524288, SEVEN(3), {1, 2}, SEVEN(4)},
+    {"weights 1 2, distortion 3 at 524,288 behind rate 2 over the range: 7, at 2", 2, 1, 3, 1048576, 4, 524288, SEVEN(2), {1, 2}, SEVEN(2)},
+};
+
+/* Every cell of tables of this size in turn, with weights of all sorts: the largest distortion that the weight of its scan allows is legal, and
+ * one more is 7 at that cell. */
+static int every_weight(uint64_t scans, uint64_t settings) {
+    static const uint8_t some[] = {255, 0, 2, 1, 3, 128, 17, 254, 64, 100};
+    size_t cells = (size_t)(settings + (scans - 1) * settings * settings), k;
+    uint32_t *rates = (uint32_t *)malloc(4 * cells), *distortions = (uint32_t *)malloc(4 * cells);
+    lent plan = lend((size_t)scans, 13), scratch = lend((size_t)(scans * settings), 100), answer = lend(QPL_CEILING_ANSWER, 50);
+    lent weights = lend((size_t)scans, 0);
+    int good = rates != NULL && distortions != NULL;
+    for (k = 0; k < weights.length; k++) weights.bytes[k] = some[k % sizeof some];
+    for (k = 0; good && k < cells; k++) rates[k] = (uint32_t)k % 11, distortions[k] = (uint32_t)k % 7;
+    for (k = 0; good && k < cells; k++) {
+        size_t scan = k < settings ? 0 : (size_t)(1 + (k - settings) / (settings * settings));
+        uint32_t weight = some[scan % sizeof some], most = weight > 1 ? 1048575 / weight : 1048575, cell = distortions[k], by;
+        for (by = 0; by < 2; by++) {
+            distortions[k] = most + by;
+            good = good && qpl_ceiling(scans, settings, 1, UINT32_MAX, rates, cells, distortions, cells, weights.bytes, weights.length,
+                                       plan.bytes, plan.length, scratch.bytes, scratch.length, answer.bytes, answer.length) ==
+                               (by == 0 ? 0 : SEVEN(k));
+        }
+        distortions[k] = cell;
+    }
+    good = good && lent_guarded(&weights) && lent_guarded(&plan) && lent_guarded(&scratch) && lent_guarded(&answer);
+    for (k = 0; k < weights.length; k++) good = good && weights.bytes[k] == some[k % sizeof some];
+    give_back(&weights);
+    give_back(&plan);
+    give_back(&scratch);
+    give_back(&answer);
+    free(rates);
+    free(distortions);
+    return good;
+}
+
+/* So many weights for this table (none: a null pointer), by every call: what each must give back, with every buffer as it was. The buffers are
+ * short by `less` bytes. */
+static int with_weights(const table *t, size_t length, size_t less, uint64_t right) {
+    static const uint8_t many[] = {1, 1, 1, 1};
+    int which, good = 1;
+    for (which = CEILING; which <= AVERAGE; which++) {
+        lent plan = lend((size_t)t->scans - less, 13), scratch = lend((size_t)(t->scans * t->settings) - less, 100);
+        lent answer = lend(answer_lengths[which] - less, 50), weights = lend_weights(many, length);
+        expected e = {"", t, (enum call)which, 17, 1, 0, 0, 0, {0}, {0}};
+        good = good && ask(&e, &weights, &plan, &scratch, &answer) == right && weights_hold(&weights, many);
+        good = good && holds(&plan, 0, NULL, 13) && holds(&scratch, 0, NULL, 100) && holds(&answer, 0, NULL, 50);
+        give_back(&weights);
+        give_back(&plan);
+        give_back(&scratch);
+        give_back(&answer);
+    }
+    return good;
+}
+
+static void other_weights(void) {
+    static const uint32_t illegal[] = {1048576, 4, 8, 3, 9, 5};
+    const table wrong = {2, 2, 1, illegal, t_distortions, 6, ones}, law_3 = {2, 2, 3, t_rates, t_distortions, 6, ones};
+    const expected four = {"", &T_11, MULTIPLIER, 0, 0, 0, 0, 0, {0}, {0}};
+    lent plan = lend(2, 13), scratch = lend(4, 100), answer = lend(QPL_MULTIPLIER_ANSWER, 50), weights = lend(1, 0);
+    expect("2 scans and no weights, at a null pointer: refused 5", with_weights(&T_11, 0, 0, 5));
+    expect("2 scans and one weight: refused 5", with_weights(&T_11, 1, 0, 5));
+    expect("2 scans and three weights: refused 5", with_weights(&T_11, 3, 0, 5));
+    expect("1 scan and no weights, or two: refused 5", with_weights(&SINGLE, 0, 0, 5) && with_weights(&SINGLE, 2, 0, 5));
+    expect("one weight, before 6 and 7", with_weights(&T_11, 1, 1, 5) && with_weights(&wrong, 1, 0, 5) && with_weights(&wrong, 3, 1, 5));
+    expect("two weights: 6 and 7", with_weights(&wrong, 2, 1, 6) && with_weights(&wrong, 2, 0, SEVEN(0)));
+    expect("one weight, behind 3", with_weights(&law_3, 1, 0, 3) && with_weights(&law_3, 0, 1, 3));
+    expect("one weight, behind 4", ask(&four, &weights, &plan, &scratch, &answer) == 4 && holds(&plan, 0, NULL, 13) &&
+                                       holds(&scratch, 0, NULL, 100) && holds(&answer, 0, NULL, 50));
+    give_back(&weights);
+    give_back(&plan);
+    give_back(&scratch);
+    give_back(&answer);
+}
+
+/* A plan file of two scans by hand: the eleven fields in the order of the writer, the mark behind them, the settings, and the checks of both
+ * blocks. What a write and a read of it must give back; where that is a refusal, the checks are made right by seal.h. */
+typedef struct {
+    const char *what;
+    uint64_t fields[12];
+    uint8_t plan[2];
+    uint32_t checks[2];
+    uint64_t right;
+} marked_file;
+
+#define THIRTEEN(byte) (13 | (uint64_t)(byte) << 32)
+static const marked_file marked[] = {
+    {"T, weights 0 1, average 13, as a file", {2, 2, 1, 0, 13, 1, 5, 13, 4, 7, 4, 1}, {1, 0}, {169743, 1013}, 0},
+    {"T, weights 0 1, average 13, mark 0: refused 13, at 40", {2, 2, 1, 0, 13, 1, 5, 13, 4, 7, 4, 0}, {1, 0}, {0, 0}, THIRTEEN(40)},
+    {"T, weights 0 1, average 13, mark 2: refused 13, at 13", {2, 2, 1, 0, 13, 1, 5, 13, 4, 7, 4, 2}, {1, 0}, {0, 0}, THIRTEEN(13)},
+    {"T, weights 0 1, average 13, mark 255: refused 13, at 13", {2, 2, 1, 0, 13, 1, 5, 13, 4, 7, 4, 255}, {1, 0}, {0, 0}, THIRTEEN(13)},
+    {"mark 2 and kind 2: refused 13, at 12", {2, 2, 1, 2, 13, 1, 5, 13, 4, 7, 4, 2}, {1, 0}, {0, 0}, THIRTEEN(12)},
+    {"mark 2 and n/d 5/5: refused 13, at 13", {2, 2, 1, 0, 13, 5, 5, 13, 4, 7, 4, 2}, {1, 0}, {0, 0}, THIRTEEN(13)},
+    {"mark 1 and n/d 5/5: refused 13, at 24", {2, 2, 1, 0, 13, 5, 5, 13, 4, 7, 4, 1}, {1, 0}, {0, 0}, THIRTEEN(24)},
+    {"mark 1 and a peak of 1,048,575 over distortion 0", {2, 2, 1, 0, 13, 1, 5, 13, 0, 1048575, 0, 1}, {1, 0}, {408138, 1013}, 0},
+    {"mark 1 and a peak of 1,048,576: refused 13, at 40", {2, 2, 1, 0, 13, 1, 5, 13, 4, 1048576, 4, 1}, {1, 0}, {0, 0}, THIRTEEN(40)},
+    {"mark 1 and a floor over the distortion: refused 13, at 44", {2, 2, 1, 0, 13, 1, 5, 13, 4, 7, 5, 1}, {1, 0}, {0, 0}, THIRTEEN(44)},
+    {"mark 1 and a peak within the distortion", {2, 2, 1, 0, 17, 3, 5, 13, 8, 6, 6, 1}, {0, 1}, {175027, 8573}, 0},
+    {"mark 0 and a peak that is the distortion", {2, 2, 1, 0, 13, 1, 5, 13, 4, 4, 4, 0}, {1, 0}, {167844, 1013}, 0},
+    {"T, weights 0 0, minmax 9, as a file", {2, 2, 1, 1, 9, 0, 0, 9, 0, 10, 0, 1}, {1, 1}, {161143, 9077}, 0},
+    {"T, weights 0 0, minmax 9, mark 0: refused 13, at 40", {2, 2, 1, 1, 9, 0, 0, 9, 0, 10, 0, 0}, {1, 1}, {0, 0}, THIRTEEN(40)},
+};
+
+static void make_marked(const marked_file *m, uint8_t *file) {
+    /* where each field starts, and how many bytes it has */
+    static const size_t places[12][2] = {{8, 2},  {10, 1}, {11, 1}, {12, 1}, {16, 8}, {24, 4},
+                                         {28, 4}, {32, 4}, {36, 4}, {40, 4}, {44, 4}, {13, 1}};
+    size_t f, k;
+    memset(file, 0, 2 * BLOCK);
+    memcpy(file + 4, "QPL2", 4);
+    for (f = 0; f < 12; f++)
+        for (k = 0; k < places[f][1]; k++) file[places[f][0] + k] = (uint8_t)(m->fields[f] >> 8 * k);
+    file[BLOCK] = 1, file[BLOCK + 4] = (uint8_t)(m->plan[0] | m->plan[1] << 4);
+    if (m->right == 0)
+        put_check(file, m->checks[0]), put_check(file + BLOCK, m->checks[1]);
+    else
+        seal(file, 2 * BLOCK);
+}
+
+static uint64_t write_marked(const marked_file *m, uint64_t mark, lent *file) {
+    const uint64_t *f = m->fields;
+    return qpl_write(f[0], f[1], f[2], f[3], f[4], f[5], f[6], f[7], f[8], f[9], f[10], mark, m->plan, 2, file->bytes, file->length);
+}
+
+static int writes_marked(const marked_file *m, size_t more) {
+    uint8_t file[2 * BLOCK];
+    lent written = lend(sizeof file + more, 13);
+    int good = write_marked(m, m->fields[11], &written) == m->right;
+    make_marked(m, file);
+    good = good && holds(&written, m->right == 0 ? sizeof file : 0, file, 13);
+    give_back(&written);
+    return good;
+}
+
+/* A read of this file, which is m's but for what may have been changed in it: what it must give back, and on 0 m's settings and thirteen values,
+ * of this version and with this mark. */
+static int reads_marked(const marked_file *m, const uint8_t *file, uint64_t version, uint64_t mark, uint64_t right) {
+    lent plan = lend(2, 13), answer = lend(QPL_READ_ANSWER, 50);
+    uint8_t values[QPL_READ_ANSWER];
+    uint64_t fields[13];
+    size_t k;
+    int good = qpl_read(file, 2 * BLOCK, plan.bytes, plan.length, answer.bytes, answer.length) == right;
+    for (k = 0; k < 11; k++) fields[k] = m->fields[k];
+    fields[QPL_READ_VERSION] = version, fields[QPL_READ_WEIGHTED] = mark;
+    for (k = 0; k < sizeof values; k++) values[k] = (uint8_t)(fields[k / 8] >> 8 * (k % 8));
+    good = good && holds(&plan, right == 0 ? 2 : 0, m->plan, 13) && holds(&answer, right == 0 ? sizeof values : 0, values, 50);
+    give_back(&plan);
+    give_back(&answer);
+    return good;
+}
+
+/* One of these files, read as this version, with two of its bytes changed (a change to what stands there changes nothing) and its checks made
+ * right again: what a read must give back, which on 0 finds no mark. */
+typedef struct {
+    const char *what;
+    size_t which;
+    int version;
+    size_t at;
+    uint8_t byte;
+    size_t second_at;
+    uint8_t second;
+    uint64_t right;
+} changed_file;
+
+/* Of `marked`: the file with the mark, and one without it, whose peak is its distortion. */
+enum { WITH_MARK = 0, WITHOUT_MARK = 11 };
+
+static const changed_file changed_marks[] = {
+    {"QPL2, byte 13 from 1 to 0, the peak over the distortion: refused 13, at 40", WITH_MARK, 2, 13, 0, 12, 0, THIRTEEN(40)},
+    {"QPL2, byte 13 from 1 to 2: refused 13, at 13", WITH_MARK, 2, 13, 2, 12, 0, THIRTEEN(13)},
+    {"QPL2, byte 13 from 1 to 128: refused 13, at 13", WITH_MARK, 2, 13, 128, 12, 0, THIRTEEN(13)},
+    {"QPL2 with the mark, byte 14 not zero: refused 13, at 14", WITH_MARK, 2, 14, 1, 12, 0, THIRTEEN(14)},
+    {"QPL2 with the mark, byte 15 not zero: refused 13, at 14", WITH_MARK, 2, 15, 1, 12, 0, THIRTEEN(14)},
+    {"QPL2 without the mark, byte 14 not zero: refused 13, at 14", WITHOUT_MARK, 2, 14, 255, 12, 0, THIRTEEN(14)},
+    {"QPL2 without the mark, byte 15 not zero: refused 13, at 14", WITHOUT_MARK, 2, 15, 255, 12, 0, THIRTEEN(14)},
+    {"QPL2, byte 13 at 2 and byte 14 not zero: refused 13, at 13", WITH_MARK, 2, 13, 2, 14, 1, THIRTEEN(13)},
+    {"QPL2, byte 13 at 0, byte 15 not zero, the peak over the distortion: refused 13, at 14", WITH_MARK, 2, 13, 0, 15, 1, THIRTEEN(14)},
+    {"QPL2, byte 14 not zero and n/d 5/5: refused 13, at 14", WITH_MARK, 2, 14, 1, 24, 5, THIRTEEN(14)},
+    {"QPL2, byte 13 at 2 and kind 2: refused 13, at 12", WITH_MARK, 2, 13, 2, 12, 2, THIRTEEN(12)},
+    {"QPL2 without the mark: read", WITHOUT_MARK, 2, 13, 0, 12, 0, 0},
+    {"QPL1, byte 13 at 1: refused 13, at 13", WITH_MARK, 1, 13, 1, 12, 0, THIRTEEN(13)},
+    {"QPL1, byte 13 at 1, the peak within the distortion: refused 13, at 13", WITHOUT_MARK, 1, 13, 1, 12, 0, THIRTEEN(13)},
+    {"QPL1, byte 14 not zero: refused 13, at 13", WITHOUT_MARK, 1, 14, 1, 12, 0, THIRTEEN(13)},
+    {"QPL1, byte 15 not zero: refused 13, at 13", WITHOUT_MARK, 1, 15, 1, 12, 0, THIRTEEN(13)},
+    {"QPL1, byte 13 at 0, the peak over the distortion: refused 13, at 40", WITH_MARK, 1, 13, 0, 12, 0, THIRTEEN(40)},
+    {"QPL1 without the mark: read", WITHOUT_MARK, 1, 13, 0, 12, 0, 0},
+};
+
+static int reads_changed(const changed_file *c) {
+    const marked_file *m = &marked[c->which];
+    uint8_t file[2 * BLOCK];
+    make_marked(m, file);
+    file[c->at] = c->byte, file[c->second_at] = c->second;
+    seal_as(file, sizeof file, c->version);
+    return reads_marked(m, file, (uint64_t)c->version, 0, c->right);
+}
+
+/* T's average plan for 13 with weights 0 1 from the call to its file, as a host has it: what is answered goes into the file, with the mark. */
+static int planned_to_file(void) {
+    static const uint64_t wide[] = {2, 255, 256, UINT64_C(1) << 32, (UINT64_C(1) << 32) + 1, UINT64_MAX};
+    const marked_file *m = &marked[WITH_MARK];
+    uint8_t plan[2] = {0}, scratch[4] = {0}, answer[QPL_AVERAGE_ANSWER] = {0}, file[2 * BLOCK];
+    lent written = lend(sizeof file, 13), refused = lend(sizeof file, 13);
+    size_t k;
+    int good = qpl_average(2, 2, 1, 13, t_rates, 6, t_distortions, 6, w_01, 2, plan, 2, scratch, 4, answer, sizeof answer) == 0;
+    make_marked(m, file);
+    good = good && qpl_write(2, 2, 1, QPL_KIND_AVERAGE, 13, qpl_value(answer, QPL_AVERAGE_N), qpl_value(answer, QPL_AVERAGE_D),
+                             qpl_value(answer, QPL_AVERAGE_RATE), qpl_value(answer, QPL_AVERAGE_DISTORTION),
+                             qpl_value(answer, QPL_AVERAGE_PEAK), qpl_value(answer, QPL_AVERAGE_FLOOR), 1, plan, 2, written.bytes,
+                             written.length) == 0;
+    good = good && holds(&written, sizeof file, file, 13) && reads_marked(m, written.bytes, QPL_VERSION_2, 1, 0);
+    for (k = 0; k < sizeof wide / sizeof wide[0]; k++) good = good && write_marked(m, wide[k], &refused) == THIRTEEN(13);
+    good = good && write_marked(m, 0, &refused) == THIRTEEN(40) && holds(&refused, 0, NULL, 13);
+    give_back(&written);
+    give_back(&refused);
+    return good;
+}
+
+/* Scans of unequal weight: plans, illegal cells, weights of another length, and files. */
+static void unequal_weights(void) {
+    uint64_t scans;
+    int good = 1;
+    size_t k;
+    for (k = 0; k < sizeof weighed / sizeof weighed[0]; k++) {
+        expect(weighed[k].what, as_expected(&weighed[k], 0));
+        expect(weighed[k].what, as_expected(&weighed[k], 9));
+    }
+    for (k = 0; k < sizeof weighed_changes / sizeof weighed_changes[0]; k++)
+        expect(weighed_changes[k].what, named_by_every_call(&weighed_changes[k]));
+    for (scans = 1; scans <= 40; scans++) good = good && every_weight(scans, 1);
+    expect("the most that a weight allows, in every cell of tables of 1 to 40 cells", good);
+    expect("the most that a weight allows, in every cell of a table of 84 cells", every_weight(10, 3));
+    expect("the most that a weight allows, in every cell of a table of 1,296 cells", every_weight(6, 16));
+    other_weights();
+    for (k = 0; k < sizeof marked / sizeof marked[0]; k++) {
+        const marked_file *m = &marked[k];
+        uint8_t file[2 * BLOCK], again[2 * BLOCK];
+        make_marked(m, file);
+        memcpy(again, file, sizeof again);
+        seal(again, sizeof again);
+        expect(m->what, writes_marked(m, 0) && writes_marked(m, 17));
+        expect(m->what, reads_marked(m, file, QPL_VERSION_2, m->fields[11], m->right) && memcmp(file, again, sizeof file) == 0);
+    }
+    for (k = 0; k < sizeof changed_marks / sizeof changed_marks[0]; k++) expect(changed_marks[k].what, reads_changed(&changed_marks[k]));
+    expect("T, weights 0 1, average 13: from the call to the file and back", planned_to_file());
 }
 
 /* A list for 2 scans and 2 settings (NULL: no bytes, lent as a null pointer), what its import must give back, and on 0 the six cells of each
@@ -767,6 +1132,7 @@ int main(void) {
     versions();
     laws();
     illegal_cells();
+    unequal_weights();
     import_export();
     printf("%d passed, %d failed\n", passed, failed);
     return failed != 0;

@@ -7,8 +7,9 @@
  *
  * The words: a sequence is allowed when it has `scans` settings below `settings`, uses no forbidden cell and keeps the law. Law 0: any
  * change between scans. Law 1: consecutive settings differ by at most 2. Law 2: a setting is at most 2 above the one before it, or below it
- * by any amount. The rate of a sequence is the sum of its rate cells, its distortion the sum of its distortion cells, its peak the largest of
- * its distortion cells. "First" among sequences: at the earliest place where two differ, the lower setting wins.
+ * by any amount. Each scan has a weight, 0 to 255: how much its distortion counts. The rate of a sequence is the sum of its rate cells, its
+ * distortion the sum of its distortion cells, each times the weight of its scan, its peak the largest of its distortion cells as they stand
+ * in the table, of scans of weight 0 too. "First" among sequences: at the earliest place where two differ, the lower setting wins.
  *
  * What a call gives back: 0, or a refusal. A refusal has its number in the low 32 bits (qpl_refusal) and what it carries in the high 32
  * (qpl_carried; 0 where the table below names nothing).
@@ -17,9 +18,10 @@
  *    2  settings is 0 or over 16
  *    3  law is not 0, 1 or 2
  *    4  n or d outside its range (n at most, d from 1 to 1,073,741,823)
- *    5  rate or distortion table not of the exact length
+ *    5  rate or distortion table not of the exact length; in a planning call also weights that are not exactly one for each scan
  *    6  a lent buffer shorter than needed; in qpl_import a table too
- *    7  illegal cell; carries the lowest illegal cell's number
+ *    7  illegal cell, in a planning call also one whose distortion times its scan's weight is over 1,048,575; carries the lowest illegal
+ *       cell's number
  *    8  no allowed sequence, whatever the limit
  *    9  allowed sequences exist, none within ceiling or budget
  *   10  channels is 0 or over 1,048,576
@@ -43,7 +45,8 @@
  *  - nothing that a call may write, buffer or table (what it takes by a pointer that is not to const), overlaps anything else that is lent to
  *    that call, and nothing else changes what is lent while the call runs. Tables are written by qpl_import alone;
  *  - tables of 32-bit cells are aligned as C aligns uint32_t. Bytes need no alignment.
- * Numbers are 64 bits wide, so that none is cut before it is checked, but for cells and the ceiling of qpl_ceiling, which have 32 bits.
+ * Numbers are 64 bits wide, so that none is cut before it is checked, but for cells and the ceiling of qpl_ceiling, which have 32 bits, and
+ * weights, which have 8: a weight over 255 is cut by C before the call sees it, and no call can refuse it.
  *
  * The scope of the library names the room question and the reader for C hosts, "with numbers and byte slices". The writer, the four planning
  * calls, and import and export go beyond that, and so do the slices of 32-bit cells.
@@ -60,7 +63,7 @@ extern "C" {
 
 /* The lengths of the answers, in bytes. */
 #define QPL_ROOM_ANSWER 24
-#define QPL_READ_ANSWER 96 /* 88 before there were versions: a host that lends 88 gets 6 */
+#define QPL_READ_ANSWER 104 /* 88 before there were versions, 96 before there were weights: a host that lends so little gets 6 */
 #define QPL_CEILING_ANSWER 24
 #define QPL_MULTIPLIER_ANSWER 24
 #define QPL_MINMAX_ANSWER 32
@@ -70,11 +73,12 @@ extern "C" {
 /* A call takes at most this much stack, in bytes from the caller's stack pointer at the call. That is measured, and not proved.
  *
  * host/stack.c runs the calls of the x86-64 archive on a painted stack and finds the deepest byte that changed, the return address counted:
- * room 96, read 704, write 624, ceiling 5,336, multiplier 5,352, minmax 5,384, average 5,496, import 328, export 528. It runs the largest
- * tables, small ones, refusals, and n and d that are consecutive Fibonacci numbers. The frames in the disassembly, read by hand, all have
- * fixed sizes and agree to 16 bytes: the deepest chain of calls, from qpl_average through the pass to a memcpy, takes 5,496. Two
- * functions call themselves: the lowest terms of n/d, 64 bytes each time, at most 44 times, and never while a pass is on the stack; and the
- * digits of a number in qpl_export, 48 bytes each time, at most 7 times. The common divisor and the width of a number have become loops.
+ * room 96, read 728, write 664, ceiling 5,256, multiplier 5,272, minmax 5,288, average 5,432, import 328, export 544. It runs the largest
+ * tables, small ones, refusals, and n and d that are consecutive Fibonacci numbers. Before there were weights the frames in the disassembly
+ * were read by hand: all had fixed sizes, and the deepest chain of calls, from qpl_average through the pass to a memcpy, took what was
+ * measured. Two functions called themselves, as they do in the source: the lowest terms of n/d, 64 bytes each time, at most 44 times, and
+ * never while a pass is on the stack; and the digits of a number in qpl_export, 48 bytes each time, at most 7 times. The common divisor and
+ * the width of a number had become loops.
  *
  * The figures are of the archive as rattle-kit-5b compiles it, seen under the kit's emulator with its C library, whose memcpy and memset are
  * counted as they ran; host/run measures the archive at hand. The stack of a loader that binds the two at their first call comes on top. */
@@ -94,7 +98,8 @@ enum {
     QPL_READ_DISTORTION,
     QPL_READ_PEAK,
     QPL_READ_FLOOR,
-    QPL_READ_VERSION
+    QPL_READ_VERSION,
+    QPL_READ_WEIGHTED
 };
 enum { QPL_CEILING_RATE, QPL_CEILING_DISTORTION, QPL_CEILING_PEAK };
 enum { QPL_MULTIPLIER_RATE, QPL_MULTIPLIER_DISTORTION, QPL_MULTIPLIER_PEAK };
@@ -139,37 +144,52 @@ uint64_t qpl_room(uint64_t channels, uint64_t scans, uint64_t settings, uint8_t 
  *   10  settings         1 to 16
  *   11  law              0, 1 or 2
  *   12  kind             0 or 1
- *   13  zeros
+ *   13  weighted         QPL2: 0 or 1; QPL1: zeros, bytes 13 to 15
+ *   14  zeros            QPL2 alone: bytes 14 and 15
  *   24  n                kind 0: at most 1,073,741,823, and n/d in lowest terms; kind 1: 0
  *   28  d                kind 0: 1 to 1,073,741,823; kind 1: 0
  *   32  rate             at most budget and at most 1,073,740,800
  *   36  distortion       at most 1,073,740,800
- *   40  peak             at most 1,048,575 and at most the distortion
+ *   40  peak             at most 1,048,575, and where byte 13 is 0 at most the distortion
  *   44  floor            kind 0: at most the distortion; kind 1: 0
  *   48  zeros
  * The budget (byte 16) may be any number. The letters, the zeros and the length are the writer's own, and never broken there. 14 carries the
  * first entry that breaks its rule: an entry below `scans` is a setting below `settings` that keeps the law with the one before it, and a
- * later one (filler, of which the writer makes its own) is zero. */
+ * later one (filler, of which the writer makes its own) is zero.
+ *
+ * Byte 13 is a mark: 1 says that some weight of the plan's call differs from 1, 0 that none does. A file holds no weights. Distortion and
+ * floor are the weighted ones and the peak is not weighted, so that where the mark is 1 the peak may be over the distortion. */
 
 /* Reads a plan file of any bytes and any length.
- * Answer (96 bytes): scans, settings, law, kind (0 average, 1 minmax), budget, n, d, rate, distortion, peak, floor, version (1 for QPL1, 2
- * for QPL2). In a file of kind 1 n, d and floor are 0.
- * Refusals, the first that applies: 11, 12, 13, 6 (plan under scans bytes, or answer under 96), 14.
+ * Answer (104 bytes): scans, settings, law, kind (0 average, 1 minmax), budget, n, d, rate, distortion, peak, floor, version (1 for QPL1, 2
+ * for QPL2), weighted (byte 13: 0 or 1, and of QPL1 0). In a file of kind 1 n, d and floor are 0.
+ * Refusals, the first that applies: 11, 12, 13, 6 (plan under scans bytes, or answer under 104), 14.
  * On 0 the first `scans` bytes of plan are the settings and the rest is as it was; on a refusal all of plan is as it was. */
 uint64_t qpl_read(const uint8_t *file, size_t file_length, uint8_t *plan, size_t plan_length, uint8_t *answer, size_t answer_length);
 
-/* Writes the plan file of these fields and settings, as QPL2. There is no answer beside the file.
+/* Writes the plan file of these fields and settings, as QPL2. There is no answer beside the file. `weighted` is the mark: a host passes 1
+ * where some weight of the plan's call differs from 1, and otherwise 0. The writer sees no weights, so it takes either; any other number is
+ * 13, at byte 13.
  * Refusals, the first that applies: 13, 6 (plan under scans bytes, or file too short), 14.
  * On 0 the first 1,024 bytes of file (1,536 where scans is over 1,008) are the plan file and the rest is as it was; on a refusal all of
- * file is as it was. What is written reads back as the same fields and settings. */
+ * file is as it was. What is written reads back as the same fields, mark and settings. */
 uint64_t qpl_write(uint64_t scans, uint64_t settings, uint64_t law, uint64_t kind, uint64_t budget, uint64_t n, uint64_t d, uint64_t rate,
-                   uint64_t distortion, uint64_t peak, uint64_t floor, const uint8_t *plan, size_t plan_length, uint8_t *file,
-                   size_t file_length);
+                   uint64_t distortion, uint64_t peak, uint64_t floor, uint64_t weighted, const uint8_t *plan, size_t plan_length,
+                   uint8_t *file, size_t file_length);
 
 /* The planning calls. Both tables have exactly settings + (scans - 1) * settings * settings cells: scan 0, setting q is cell q; scan i
  * from 1, previous setting p, setting q is cell settings + (i - 1) * settings * settings + p * settings + q. A rate is 0 to 1,048,575 or
  * QPL_FORBIDDEN. A distortion is 0 to 1,048,575; beside a forbidden rate it may have any value, and no answer depends on it. Cells that the
  * law rules out must still hold such values. plan needs `scans` bytes, scratch scans * settings bytes.
+ *
+ * weights has exactly `scans` bytes: byte i is the weight of scan i. Beside a rate that is not forbidden a distortion times the weight of its
+ * scan is at most 1,048,575 too; weight 0 excuses no distortion that is itself over 1,048,575. The distortion that is least, that costs, that
+ * is answered and that the floor bounds is the weighted one. Peaks and ceilings take the cells as they stand.
+ *
+ * All weights 1 give exactly the answers of before there were weights, and that is how a host without weights calls: it lends `scans` bytes
+ * that are all 1. There is no default; a null pointer with length 0 is 5. The four calls, and qpl_write, take more arguments than they did
+ * then. That break of source is meant: a call with the arguments of before is a compile error, and not a wrong answer. A linker does not see
+ * it: what was compiled with the header of then must be compiled again.
  *
  * Refusals, the first that applies: 1, 2, 3, (4: qpl_multiplier alone,) 5, 6 (plan, scratch or answer too short), 7, 8, (9: not by
  * qpl_multiplier).
@@ -181,27 +201,28 @@ uint64_t qpl_write(uint64_t scans, uint64_t settings, uint64_t law, uint64_t kin
  * means no ceiling. A number wider than 32 bits is cut by C before the call sees it, so a host that has one passes 4,294,967,295 instead.
  * Answer (24 bytes): rate, distortion, peak. */
 uint64_t qpl_ceiling(uint64_t scans, uint64_t settings, uint64_t law, uint32_t ceiling, const uint32_t *rates, size_t rates_length,
-                     const uint32_t *distortions, size_t distortions_length, uint8_t *plan, size_t plan_length, uint8_t *scratch,
-                     size_t scratch_length, uint8_t *answer, size_t answer_length);
+                     const uint32_t *distortions, size_t distortions_length, const uint8_t *weights, size_t weights_length, uint8_t *plan,
+                     size_t plan_length, uint8_t *scratch, size_t scratch_length, uint8_t *answer, size_t answer_length);
 
 /* Among all allowed sequences: least d * distortion + n * rate, then least rate, then first.
  * Answer (24 bytes): rate, distortion, peak. */
 uint64_t qpl_multiplier(uint64_t scans, uint64_t settings, uint64_t law, uint64_t n, uint64_t d, const uint32_t *rates,
-                        size_t rates_length, const uint32_t *distortions, size_t distortions_length, uint8_t *plan, size_t plan_length,
-                        uint8_t *scratch, size_t scratch_length, uint8_t *answer, size_t answer_length);
+                        size_t rates_length, const uint32_t *distortions, size_t distortions_length, const uint8_t *weights,
+                        size_t weights_length, uint8_t *plan, size_t plan_length, uint8_t *scratch, size_t scratch_length, uint8_t *answer,
+                        size_t answer_length);
 
 /* The least ceiling X for which some allowed sequence has peak at most X and rate at most `budget`, and then the ceiling plan for X.
  * Answer (32 bytes): X, rate, distortion, peak. */
 uint64_t qpl_minmax(uint64_t scans, uint64_t settings, uint64_t law, uint64_t budget, const uint32_t *rates, size_t rates_length,
-                    const uint32_t *distortions, size_t distortions_length, uint8_t *plan, size_t plan_length, uint8_t *scratch,
-                    size_t scratch_length, uint8_t *answer, size_t answer_length);
+                    const uint32_t *distortions, size_t distortions_length, const uint8_t *weights, size_t weights_length, uint8_t *plan,
+                    size_t plan_length, uint8_t *scratch, size_t scratch_length, uint8_t *answer, size_t answer_length);
 
 /* The least multiplier n/d whose multiplier plan has rate at most `budget`, in lowest terms (zero as 0/1), with that plan and the floor that
  * it proves: no allowed sequence of rate at most `budget` has a distortion below the floor.
  * Answer (48 bytes): n, d, rate, distortion, peak, floor. */
 uint64_t qpl_average(uint64_t scans, uint64_t settings, uint64_t law, uint64_t budget, const uint32_t *rates, size_t rates_length,
-                     const uint32_t *distortions, size_t distortions_length, uint8_t *plan, size_t plan_length, uint8_t *scratch,
-                     size_t scratch_length, uint8_t *answer, size_t answer_length);
+                     const uint32_t *distortions, size_t distortions_length, const uint8_t *weights, size_t weights_length, uint8_t *plan,
+                     size_t plan_length, uint8_t *scratch, size_t scratch_length, uint8_t *answer, size_t answer_length);
 
 /* Lists: what the trial encoder measured, one line for each cell: scan, previous setting, setting, rate, distortion, parted by commas, with
  * line ends and quotes as in RFC 4180 and no heading line. The cells are those of the planning calls.

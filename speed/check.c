@@ -1,12 +1,14 @@
 /* The time of the check of every cell, beside streaming both tables once and a check written by hand, in one run: the versions take turns, and
- * medians and ratios are printed. The proved check is timed as a multiplier call that is refused at its last cell. Streaming is the quickest
- * of four sums (stream.c). This is no part of time.c, since a function more there moves the C loops that it times. */
+ * medians and ratios are printed. The proved check is timed as a multiplier call that is refused at its last cell. Both checks take weights,
+ * which are all 1. Streaming is the quickest of four sums (stream.c). This is no part of time.c, since a function more there moves the C loops
+ * that it times. */
 #define _POSIX_C_SOURCE 199309L
 #include "cells.h"
 #include "qpl.h"
 #include "turns.h"
 
 #include <stdio.h>
+#include <string.h>
 
 #define MOST (16 + 1023 * 256)
 #define VERSIONS 6
@@ -15,18 +17,18 @@ uint64_t stream_cc_32(const uint32_t *, const uint32_t *, size_t), stream_cc_64(
 uint64_t stream_kit_32(const uint32_t *, const uint32_t *, size_t), stream_kit_64(const uint32_t *, const uint32_t *, size_t);
 
 static uint32_t rates[MOST], distortions[MOST];
-static uint8_t plan[1024], scratch[16384], answer[QPL_MULTIPLIER_ANSWER];
+static uint8_t weights[1024], plan[1024], scratch[16384], answer[QPL_MULTIPLIER_ANSWER];
 
 /* Called through this, so that no repeated check is left out. */
-static int (*volatile by_hand)(const uint32_t *, const uint32_t *, size_t) = illegal;
+static int (*volatile by_hand)(const uint32_t *, const uint32_t *, const uint8_t *, size_t, size_t) = illegal;
 
 /* Version 0 is the proved call, 1 the check by hand, and the others stream: what the call gave back, whether a cell is illegal, the sum. */
 static uint64_t called(int version, size_t scans, size_t settings, size_t cells) {
     switch (version) {
     case 0:
-        return qpl_multiplier(scans, settings, 0, 1, 1, rates, cells, distortions, cells, plan, sizeof plan, scratch, sizeof scratch, answer,
-                              sizeof answer);
-    case 1: return (uint64_t)by_hand(rates, distortions, cells);
+        return qpl_multiplier(scans, settings, 0, 1, 1, rates, cells, distortions, cells, weights, scans, plan, sizeof plan, scratch,
+                              sizeof scratch, answer, sizeof answer);
+    case 1: return (uint64_t)by_hand(rates, distortions, weights, scans, settings);
     case 2: return stream_cc_32(rates, distortions, cells);
     case 3: return stream_cc_64(rates, distortions, cells);
     case 4: return stream_kit_32(rates, distortions, cells);
@@ -34,8 +36,9 @@ static uint64_t called(int version, size_t scans, size_t settings, size_t cells)
     }
 }
 
-/* Random legal cells, and the last one illegal. */
+/* Random legal cells, the last one illegal, and all weights 1. */
 static void fill(size_t cells) {
+    memset(weights, 1, sizeof weights);
     for (size_t k = 0; k < cells; k++) {
         rates[k] = drawn(MOST_CELL + 1);
         distortions[k] = drawn(MOST_CELL + 1);

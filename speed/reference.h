@@ -12,6 +12,7 @@
 
 typedef struct {
     const uint32_t *rates, *distortions;
+    const uint8_t *weights;
     size_t scans, settings, law;
     uint8_t *scratch;
 } job;
@@ -20,7 +21,8 @@ typedef struct {
     uint64_t rate, distortion, peak;
 } sums;
 
-/* A cell's first and second key: cost and rate at a multiplier, rate and distortion under a ceiling. */
+/* A cell's first and second key: cost and rate at a multiplier, rate and distortion under a ceiling. Both take the distortion times the weight
+ * of the scan, of which `worth` is the d-fold, found once for each scan; the ceiling is held against the cell as it stands. */
 typedef struct {
     uint64_t n, d;
     uint32_t ceiling;
@@ -28,8 +30,8 @@ typedef struct {
 } rule;
 
 #define OPEN(r, x) ((r) != FORBIDDEN && (x) <= w->ceiling)
-#define FIRST(r, x) (w->thrifty ? (uint64_t)(r) : w->d * (x) + w->n * (r))
-#define SECOND(r, x) (w->thrifty ? (uint64_t)(x) : (uint64_t)(r))
+#define FIRST(r, x) (w->thrifty ? (uint64_t)(r) : worth * (x) + w->n * (r))
+#define SECOND(r, x) (w->thrifty ? (uint64_t)(weight * (x)) : (uint64_t)(r))
 
 /* The straightforward loop: each candidate against the best so far. */
 #define STRAIGHTFORWARD                                                                                                                     \
@@ -60,6 +62,8 @@ typedef struct {
         uint64_t first[16] = {0}, second[16] = {0}, next[16], next_second[16];                                                              \
         for (size_t i = j->scans - 1;; i--) {                                                                                               \
             size_t rows = i ? k : 1, start = i ? k + (i - 1) * k * k : 0;                                                                   \
+            uint32_t weight = j->weights[i];                                                                                                \
+            uint64_t worth = w->d * weight;                                                                                                 \
             for (size_t p = 0; p < rows; p++) {                                                                                             \
                 const uint32_t *r = j->rates + start + p * k, *x = j->distortions + start + p * k;                                          \
                 size_t from = i && j->law == 1 && p > 2 ? p - 2 : 0, to = i && j->law && p + 3 < k ? p + 3 : k;                             \
@@ -91,7 +95,7 @@ static sums walk(const job *j, uint8_t *plan) {
     for (size_t i = 0; i < j->scans; i++) {
         size_t q = j->scratch[i * k + p], cell = i ? k + (i - 1) * k * k + p * k + q : q;
         t.rate += j->rates[cell];
-        t.distortion += j->distortions[cell];
+        t.distortion += (uint64_t)j->weights[i] * j->distortions[cell];
         if (j->distortions[cell] > t.peak) t.peak = j->distortions[cell];
         if (plan) plan[i] = (uint8_t)q;
         p = q;
@@ -99,9 +103,7 @@ static sums walk(const job *j, uint8_t *plan) {
     return t;
 }
 
-static int some_illegal(const job *j) {
-    return illegal(j->rates, j->distortions, j->settings + (j->scans - 1) * j->settings * j->settings);
-}
+static int some_illegal(const job *j) { return illegal(j->rates, j->distortions, j->weights, j->scans, j->settings); }
 
 static uint64_t divisor(uint64_t a, uint64_t b) { return b ? divisor(b, a % b) : a; }
 

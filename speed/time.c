@@ -2,7 +2,8 @@
  * ratio of the medians is printed. Below 1 the proved call is the faster one.
  *
  * A call includes the check of every cell, on both sides. "One pass" leaves it out: of the proved call it is a multiplier call less one that
- * is refused at the last cell, and by hand it is the pass and the walk along its choices, with no check. */
+ * is refused at the last cell, and by hand it is the pass and the walk along its choices, with no check. Both sides take weights: all 1, but
+ * random ones in the rows that are called uneven. */
 #define _POSIX_C_SOURCE 199309L
 #include "qpl.h"
 #include "reference.h"
@@ -13,20 +14,25 @@
 #define MOST (16 + 1023 * 256)
 
 static uint32_t rates[MOST], distortions[MOST];
-static uint8_t scratch[16384], plans[3][1024];
+static uint8_t weights[1024], scratch[16384], plans[3][1024];
 
-/* Random cells; or smooth ones, where a higher setting takes fewer bits and leaves more error, and a rough scan before costs both. */
-static void fill(size_t scans, size_t settings, int smooth) {
+enum content { RANDOM, SMOOTH, UNEVEN };
+static const char *const contents[] = {"random", "smooth", "uneven"};
+
+/* Random cells; or smooth ones, where a higher setting takes fewer bits and leaves more error, and a rough scan before costs both; or random
+ * weights, and random cells that are legal with them. */
+static void fill(size_t scans, size_t settings, enum content content) {
     size_t k = settings, cells = k + (scans - 1) * k * k;
+    for (size_t i = 0; i < scans; i++) weights[i] = content == UNEVEN ? (uint8_t)drawn(256) : 1;
     for (size_t c = 0; c < cells; c++) {
         size_t q = c < k ? c : (c - k) % k, p = c < k ? 0 : (c - k) / k % k, i = c < k ? 0 : 1 + (c - k) / (k * k);
-        if (smooth) {
+        if (content == SMOOTH) {
             uint32_t wave = (uint32_t)(i % 97);
             rates[c] = (uint32_t)(20000 / (q + 1) + 300 * p) + 40 * wave + drawn(30);
             distortions[c] = (uint32_t)(900 * (q + 1) * (q + 1) + 250 * p) + 15 * wave + drawn(30);
         } else {
             rates[c] = drawn(MOST_CELL + 1);
-            distortions[c] = drawn(MOST_CELL + 1);
+            distortions[c] = drawn(MOST_CELL / (weights[i] > 1 ? weights[i] : 1) + 1);
         }
     }
 }
@@ -41,14 +47,14 @@ static size_t proved(enum call which, const job *j, uint64_t limit, uint64_t *v)
     size_t cells = j->settings + (j->scans - 1) * j->settings * j->settings;
     uint64_t given;
     if (which <= MULTIPLIER)
-        given = qpl_multiplier(j->scans, j->settings, j->law, limit, 1, rates, cells, distortions, cells, plans[0], 1024, scratch, 16384,
-                               answer, sizeof answer);
+        given = qpl_multiplier(j->scans, j->settings, j->law, limit, 1, rates, cells, distortions, cells, weights, j->scans, plans[0], 1024,
+                               scratch, 16384, answer, sizeof answer);
     else if (which == AVERAGE)
-        given = qpl_average(j->scans, j->settings, j->law, limit, rates, cells, distortions, cells, plans[0], 1024, scratch, 16384, answer,
-                            sizeof answer);
+        given = qpl_average(j->scans, j->settings, j->law, limit, rates, cells, distortions, cells, weights, j->scans, plans[0], 1024, scratch,
+                            16384, answer, sizeof answer);
     else
-        given = qpl_minmax(j->scans, j->settings, j->law, limit, rates, cells, distortions, cells, plans[0], 1024, scratch, 16384, answer,
-                           sizeof answer);
+        given = qpl_minmax(j->scans, j->settings, j->law, limit, rates, cells, distortions, cells, weights, j->scans, plans[0], 1024, scratch,
+                           16384, answer, sizeof answer);
     if (given) return 0;
     for (size_t k = 0; k < lengths[which] / 8; k++) v[k] = qpl_value(answer, k);
     return lengths[which] / 8;
@@ -71,13 +77,13 @@ static double timed(int version, enum call which, const job *j, uint64_t limit, 
 }
 
 /* Version 0 is the proved call, 1 the straightforward loop, 2 the least key first. */
-static int row(enum call which, size_t scans, size_t settings, size_t law, int smooth) {
+static int row(enum call which, size_t scans, size_t settings, size_t law, enum content content) {
     double took[3][TURNS];
     uint64_t v[3][6] = {{0}}, unused[6] = {0}, limit;
     size_t counts[3] = {0}, refused = 0;
-    job j = {rates, distortions, scans, settings, law, scratch};
+    job j = {rates, distortions, weights, scans, settings, law, scratch};
     size_t cells = settings + (scans - 1) * settings * settings, times = 1 + 60000 / cells / (which <= MULTIPLIER ? 1 : 8);
-    fill(scans, settings, smooth);
+    fill(scans, settings, content);
     /* a multiplier of 1, or a budget half way from the least rate to the rate of the plan at multiplier zero */
     straight_thrifty(&j, FORBIDDEN);
     limit = walk(&j, NULL).rate;
@@ -98,7 +104,7 @@ static int row(enum call which, size_t scans, size_t settings, size_t law, int s
             return printf("%s: results differ\n", names[which]), 1;
     if (refused != 0) return printf("%s: an illegal cell is not refused\n", names[which]), 1;
     double ours = median(took[0]);
-    printf("%-10s N %4zu Q %2zu law %zu %-6s  %9.1f us  %5.3f  %5.3f\n", names[which], scans, settings, law, smooth ? "smooth" : "random", ours,
+    printf("%-10s N %4zu Q %2zu law %zu %-6s  %9.1f us  %5.3f  %5.3f\n", names[which], scans, settings, law, contents[content], ours,
            ours / median(took[1]), ours / median(took[2]));
     return 0;
 }
@@ -109,12 +115,14 @@ int main(void) {
     printf("call, table, time of the proved call, and its ratio to the straightforward loop and to the one that takes the least key first\n");
     for (int which = PASS; which <= MINMAX; which++)
         for (int s = 0; s < 3; s++)
-            for (int k = 0; k < 3; k++) failed += row((enum call)which, scans[s], settings[k], 0, 0);
+            for (int k = 0; k < 3; k++) failed += row((enum call)which, scans[s], settings[k], 0, RANDOM);
     for (int which = PASS; which <= MINMAX; which++)
         for (int k = 0; k < 3; k++) {
-            failed += row((enum call)which, 1024, settings[k], 1, 0);
-            failed += row((enum call)which, 1024, settings[k], 2, 0);
-            failed += row((enum call)which, 1024, settings[k], 0, 1);
+            failed += row((enum call)which, 1024, settings[k], 1, RANDOM);
+            failed += row((enum call)which, 1024, settings[k], 2, RANDOM);
+            failed += row((enum call)which, 1024, settings[k], 0, SMOOTH);
         }
+    for (int which = PASS; which <= MULTIPLIER; which++)
+        for (int k = 0; k < 3; k += 2) failed += row((enum call)which, 1024, settings[k], 0, UNEVEN);
     return failed != 0;
 }

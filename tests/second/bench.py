@@ -1,6 +1,6 @@
 #!/usr/bin/env python3
 """What bench must write for a text, written from document 01, "Bench tables", and request [2] of document 02, and sharing nothing with the
-library. Run as a program it does what bench does: a text on standard input, its lines on standard output."""
+library. It has no weights: each is 1. Run as a program it does what bench does: a text on standard input, its lines on standard output."""
 
 import re
 import sys
@@ -46,7 +46,7 @@ def lines(scans, settings, law, budget, rates, distortions):
     out = ""
     for word, call in (("ave", AVERAGE), ("minmax", MINMAX)):
         number, values, plan, _ = planner.answer(
-            maker, call, scans, settings, law, (budget,), rates, distortions, bytes(scans), bytes(scans * settings)
+            maker, call, scans, settings, law, (budget,), rates, distortions, planner.ones(scans), bytes(scans), bytes(scans * settings)
         )
         if number:
             out += refused(word, number, values[0])

@@ -1,8 +1,9 @@
 """Calls of the plan-file reader and writer: the bytes that file_cases reads for them, as crates/file_cases/src/main.rt takes them, and the
 lines that it must write, from the answers of planfile.py.
 
-A line holds the number that comes back, the values (a read: the eleven fields in their order in the file, and the version; a write: the
-file's length; a refusal: what it carries), and "b" with the lent buffer."""
+A line holds the number that comes back, the values (a read: the eleven fields from N to floor in their order in the file, the version, and
+whether the plan is weighted; a write: the file's length; a refusal: what it carries), and "b" with the lent buffer. The writer's fields are
+twelve, of which the last says whether the plan is weighted."""
 
 import struct
 from collections import Counter
@@ -37,8 +38,8 @@ class FileCalls:
     """The calls, beside what file_cases keeps from call to call: the file, the writer's settings and its fields."""
 
     def __init__(self):
-        self.stdin, self.lines, self.counts, self.versions = [], [], {"read": Counter(), "write": Counter()}, Counter()
-        self.file, self.given, self.fields = bytearray(FILE_ROOM), bytearray(GIVEN_ROOM), [0] * 11
+        self.stdin, self.lines, self.counts, self.good = [], [], {"read": Counter(), "write": Counter()}, Counter()
+        self.file, self.given, self.fields = bytearray(FILE_ROOM), bytearray(GIVEN_ROOM), [0] * len(planfile.NAMES)
 
     def read(self, file, lent):
         """A read with a settings buffer of so many bytes."""
@@ -69,5 +70,5 @@ class FileCalls:
     def answered(self, call, number, values, lent):
         self.counts[call][number] += 1
         if (call, number) == ("read", 0):
-            self.versions[values[-1]] += 1
+            self.good[tuple(values[-2:])] += 1
         self.lines.append(line(number, values, ("b", lent, START)))

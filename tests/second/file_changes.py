@@ -11,6 +11,7 @@ BREAKERS = {
     10: ({10: 17}, {"settings": 17}),
     11: ({11: 3}, {"law": 3}),
     12: ({12: 2}, {"kind": 2}),
+    # the zeros behind the kind: of QPL1 the field is 13 to 15, of QPL2 it is 14 to 15. What breaks byte 13 itself stands in file_weights.py
     13: ({14: 1}, {}),
     24: ({27: 64}, {"n": 2 ** 30 + 355}),
     28: ({31: 64}, {"d": 2 ** 30 + 113}),
@@ -30,8 +31,8 @@ def broken(fields):
 
 
 def sample(draw, scans, settings, law, kind):
-    """A plan in the middle of every range."""
-    f = dict(zip(planfile.NAMES, [scans, settings, law, kind, 5000000000, 0, 0, 70000000, 300000000, 600000, 0]))
+    """A plan in the middle of every range, with all weights 1."""
+    f = dict(zip(planfile.NAMES, [scans, settings, law, kind, 5000000000, 0, 0, 70000000, 300000000, 600000, 0, 0]))
     if kind == 0:
         f.update(n=355, d=113, floor=250000000)
     return f, planfile.random_settings(draw, f)
@@ -39,7 +40,7 @@ def sample(draw, scans, settings, law, kind):
 
 def qpl1(f, settings):
     """The plan's file as it was written before there was QPL2. Such files are still read, and all parts of the vectors but those of
-    file_versions.py and file_damage.py are about them."""
+    file_versions.py, file_damage.py and file_weights.py are about them."""
     return planfile.composed(f, settings, 1)
 
 

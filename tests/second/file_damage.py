@@ -12,7 +12,7 @@ def exchanged(file, j, k):
 def bridge_chip(out, draw):
     """Neighbouring bytes of block 1 exchanged: as QPL1 the file is read as good with other settings, as QPL2 it is refused. So it is
     elsewhere, where settings 0 end and settings 1 begin."""
-    f = dict(zip(planfile.NAMES, [4, 2, 1, 0, 17, 3, 5, 13, 8, 6, 6]))
+    f = dict(zip(planfile.NAMES, [4, 2, 1, 0, 17, 3, 5, 13, 8, 6, 6, 0]))
     for version in (1, 2):
         file = planfile.composed(f, [0, 1, 1, 1], version)
         out.read(file, 4)

@@ -8,6 +8,7 @@ from edges import TOP, around
 from file_changes import BREAKERS, broken, qpl1, sample, with_bytes, with_field
 
 TERM, TOTAL, PEAK = planfile.MOST_TERM, planfile.MOST_TOTAL, planfile.MOST_PEAK
+# of the fields that both versions have
 ENDS = {
     "scans": [0, 1, 2, 255, 256, 1007, 1008, 1009, 1023, 1024, 1025, 1280, 2048, 65535],
     "settings": [0, 1, 2, 15, 16, 17, 128, 255],
@@ -53,7 +54,7 @@ def at_limits(out, f, settings, file):
 
 
 def every_bit(out, f, settings, file):
-    for name in planfile.NAMES:
+    for name in ENDS:
         for bit in range(64):
             out.write(dict(f, **{name: f[name] ^ 1 << bit}), settings, 1536)
     for at in range(4, 48):

@@ -14,7 +14,7 @@ BYTES = LAWS + (3, 4, 128, 255)
 def small_plans():
     """The fields of table V's average plan and of its minmax plan for 7 under law 2, which is 3 and then 0."""
     for kind, terms, floor in ((planfile.AVERAGE, [0, 1], 4), (planfile.MINMAX, [0, 0], 0)):
-        yield dict(zip(planfile.NAMES, [2, 4, 2, kind, 7] + terms + [7, 4, 3, floor]))
+        yield dict(zip(planfile.NAMES, [2, 4, 2, kind, 7] + terms + [7, 4, 3, floor, 0]))
 
 
 def laws_and_kinds(out, draw):

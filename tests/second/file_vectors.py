@@ -17,6 +17,7 @@ from file_versions import (
     bad_blocks_of_qpl2, every_bit_of_checks, good_files, header_of_qpl2, large_and_small_checks, laws_of_qpl2, lengths_of_qpl2, letters,
     letters_in_data, nearly_right_checks, nearly_the_same, orders_of_refusals,
 )
+from file_weights import beside_others, damaged, mark_bytes, other_refusals, peaks, weighted_plans, worked, written_marks
 from lines import counted
 
 PARTS = [
@@ -32,6 +33,7 @@ PARTS = [
     nearly_right_checks, every_bit_of_checks, bad_blocks_of_qpl2,
     header_of_qpl2, laws_of_qpl2, orders_of_refusals, lengths_of_qpl2,
     bridge_chip, changed_bytes, exchanged_neighbours, exchanged_pairs,
+    worked, mark_bytes, beside_others, other_refusals, damaged, peaks, written_marks, weighted_plans,
 ]
 
 
@@ -45,4 +47,4 @@ def make(into):
     print("calls %d, stdin %d bytes, stdout %d bytes" % (len(out.lines), len(stdin), len(stdout)))
     for call, counts in out.counts.items():
         print(call + " by number: " + counted(counts))
-    print("good reads by version: " + counted(out.versions))
+    print("good reads by version and mark: " + counted(out.good))

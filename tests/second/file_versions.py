@@ -17,7 +17,7 @@ OLD, NEW = planfile.old_check, planfile.new_check
 
 def largest_fields(scans, kind):
     """Every number as high as its rule lets it be."""
-    f = dict(zip(planfile.NAMES, [scans, 16, 0, kind, 2 ** 64 - 1, 0, 0, TOTAL, TOTAL, PEAK, 0]))
+    f = dict(zip(planfile.NAMES, [scans, 16, 0, kind, 2 ** 64 - 1, 0, 0, TOTAL, TOTAL, PEAK, 0, 0]))
     if kind == 0:
         f.update(n=TERM, d=TERM - 1, floor=TOTAL)
     return f
@@ -42,7 +42,7 @@ def large_and_small_checks(out, draw):
         f = largest_fields(scans, scans % 2)
         for settings in ([15] * scans, [0] * (scans - 1) + [15], [0] * scans):
             out.both(f, settings, scans, 2)
-    least = dict(zip(planfile.NAMES, [1, 1, 0, 1] + [0] * 7))
+    least = dict(zip(planfile.NAMES, [1, 1, 0, 1] + [0] * 8))
     out.both(least, [0], 1, 2)
 
 
@@ -159,7 +159,7 @@ WRONG_CHECKS = [
 
 def nearly_right_checks(out, draw):
     """Each wrong way to check in all blocks, in one, and in all but block 0, where it gives another check than the right way."""
-    table_t = dict(zip(planfile.NAMES, [2, 2, 1, 0, 17, 3, 5, 13, 8, 6, 6])), [0, 1]
+    table_t = dict(zip(planfile.NAMES, [2, 2, 1, 0, 17, 3, 5, 13, 8, 6, 6, 0])), [0, 1]
     for f, settings in (table_t, (largest_fields(1024, 1), [15] * 1024), sample(draw, 1012, 16, 2, 0)):
         file = planfile.composed(f, settings)
         blocks = range(len(file) // 512)
@@ -194,7 +194,8 @@ def bad_blocks_of_qpl2(out, draw):
 
 
 def header_of_qpl2(out, draw):
-    """Each field at both sides of its limits, each run of zeros, each field broken, and two at once."""
+    """Each field at both sides of its limits, each run of zeros, each field broken, and two at once. A 1 in byte 13 makes the plan weighted;
+    more of that stands in file_weights.py."""
     for kind in (0, 1):
         f, settings = sample(draw, 2 + kind, 3, 0, kind)
         file = planfile.composed(f, settings)

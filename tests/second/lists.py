@@ -13,7 +13,7 @@ import random
 import re
 import sys
 
-from planner import FORBIDDEN, MOST_CELL, MOST_SCANS, MOST_SETTINGS, cell, cells, lowest_illegal
+from planner import FORBIDDEN, MOST_CELL, MOST_SCANS, MOST_SETTINGS, cell, cells, lowest_illegal, ones
 
 MALFORMED, OUT_OF_RANGE, TWICE = 16, 17, 18
 
@@ -130,7 +130,8 @@ def exported(scans, settings, rates, distortions, room):
     check_numbers(scans, settings)
     if not len(rates) == len(distortions) == cells(scans, settings):
         raise Refusal(5, 0)
-    illegal = lowest_illegal(rates, distortions)
+    # a list has no weights
+    illegal = lowest_illegal(settings, rates, distortions, ones(scans))
     if illegal is not None:
         raise Refusal(7, illegal)
     made = list_of(scans, settings, rates, distortions)

@@ -4,8 +4,9 @@ import struct
 
 from planner import FORBIDDEN, MOST_CELL
 
-# where plan_cases takes the cells from: the group before, codes, or a generator
+# where plan_cases takes the cells from: the group before, codes, or a generator; and by how much the source is more where weights are given
 KEPT, CODES, GENERATOR = 1, 2, 3
+WEIGHED = 4
 
 # the cells that a code from 240 on stands for
 SPECIAL = [

@@ -1,5 +1,6 @@
 """Planning calls on a table with the limits that matter to it: budgets, ceilings and multipliers. A call is (which, limit, other): the
-budget B, the ceiling X, or n and d of a multiplier."""
+budget B, the ceiling X, or n and d of a multiplier. A table is N, Q, law, rates and distortions, and then the weights where they are not
+all 1."""
 
 import planner
 from edges import TOP, around

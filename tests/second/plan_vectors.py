@@ -11,6 +11,7 @@ from plan_large import large_tables
 from plan_laws import laws_apart
 from plan_random import small_tables
 from plan_refusals import refusals
+from plan_weights import unequal_weights
 from plan_worked import worked_tables
 
 
@@ -22,6 +23,7 @@ def make(into):
     large_tables(out)
     laws_apart(out, draw)
     illegal_places(out)
+    unequal_weights(out, draw)
     # the source 0 ends the run
     stdin, stdout = b"".join(out.stdin) + struct.pack("<Q", 0), "".join(out.lines).encode()
     store(into, "plan_cases", stdin, stdout)

@@ -1,10 +1,12 @@
 #!/usr/bin/env python3
-"""What the four planning calls must answer, written from document 01 and request [2] of document 02, and sharing nothing with the library.
+"""What the four planning calls must answer, written from document 01 and requests [2] and [5] of document 02, and sharing nothing with the
+library.
 
 `answer` is a whole call: the number that comes back (0: no refusal), the values beside it, and what both lent buffers hold afterwards. It
 takes its plans from one of two makers. `ByTryingAll` lists every allowed sequence of a small table and reads each definition off the list.
-`ByDynamicProgram` is for tables that are too large for that. Run as a program, this file holds the two against each other, and both against
-the examples of document 01 and a table that tells the laws apart."""
+`ByDynamicProgram` is for tables that are too large for that. Each weighs the distortions by itself: the one scan by scan along a sequence,
+the other cell by cell, before it plans. Run as a program, this file holds the two against each other, and both against the examples of
+document 01, a table that tells the laws apart, and tables whose scans have unequal weights."""
 
 import itertools
 import math
@@ -38,41 +40,56 @@ def cell(settings, scan, before, setting):
     return settings + (scan - 1) * settings ** 2 + before * settings + setting
 
 
-def legal_cell(rate, distortion):
+def scan_of(settings, k):
+    """The scan whose cell k is."""
+    return 0 if k < settings else 1 + (k - settings) // settings ** 2
+
+
+def ones(scans):
+    """The weights that change nothing."""
+    return bytes([1]) * scans
+
+
+def legal_cell(rate, distortion, weight):
+    """Beside a forbidden rate nothing is illegal. A distortion over the limit is illegal at any weight, also at 0."""
     if rate == FORBIDDEN:
         return True
-    return rate <= MOST_CELL and distortion <= MOST_CELL
+    return rate <= MOST_CELL and distortion <= MOST_CELL and weight * distortion <= MOST_CELL
 
 
-def lowest_illegal(rates, distortions):
+def lowest_illegal(settings, rates, distortions, weights):
     """The lowest illegal cell over both tables, or None."""
     for k, (rate, distortion) in enumerate(zip(rates, distortions)):
-        if not legal_cell(rate, distortion):
+        if not legal_cell(rate, distortion, weights[scan_of(settings, k)]):
             return k
     return None
 
 
 class Table:
-    """A table that passed the refusals 1 to 7."""
+    """A table that passed the refusals 1 to 7. Where no weights are given, each is 1."""
 
-    def __init__(self, scans, settings, law, rates, distortions):
+    def __init__(self, scans, settings, law, rates, distortions, weights=None):
         self.scans, self.settings, self.law = scans, settings, law
         self.rates, self.distortions = rates, distortions
+        self.weights = ones(scans) if weights is None else weights
+        assert len(self.weights) == scans
 
     def totals(self, plan):
-        """Rate, distortion and peak of a sequence."""
-        before, used = 0, []
+        """Rate, distortion and peak of a sequence: the distortion weighs each scan's cell, the peak takes it as it is."""
+        before, rate, distortion, peak = 0, 0, 0, 0
         for scan, setting in enumerate(plan):
-            used.append(cell(self.settings, scan, before, setting))
+            k = cell(self.settings, scan, before, setting)
+            rate += self.rates[k]
+            distortion += self.weights[scan] * self.distortions[k]
+            peak = max(peak, self.distortions[k])
             before = setting
-        worn = [self.distortions[k] for k in used]
-        return sum(self.rates[k] for k in used), sum(worn), max(worn)
+        return rate, distortion, peak
 
 
 # Refusals
 
 
-def early_refusal(call, scans, settings, law, limits, rates, distortions, plan_length, scratch_length):
+def early_refusal(call, scans, settings, law, limits, rates, distortions, weights, plan_length, scratch_length):
     """The refusals 1 to 7, in their order: the number and what it carries, or None."""
     if not 1 <= scans <= MOST_SCANS:
         return 1, 0
@@ -85,11 +102,11 @@ def early_refusal(call, scans, settings, law, limits, rates, distortions, plan_l
         if not (0 <= n <= MOST_TERM and 1 <= d <= MOST_TERM):
             return 4, 0
     exact = cells(scans, settings)
-    if len(rates) != exact or len(distortions) != exact:
+    if len(rates) != exact or len(distortions) != exact or len(weights) != scans:
         return 5, 0
     if plan_length < scans or scratch_length < scans * settings:
         return 6, 0
-    illegal = lowest_illegal(rates, distortions)
+    illegal = lowest_illegal(settings, rates, distortions, weights)
     if illegal is not None:
         return 7, illegal
     return None
@@ -197,7 +214,8 @@ class ByTryingAll:
 
 class ByDynamicProgram:
     """Plans from the last scan back: for each setting before, the least key of what follows, and on a tie the lowest setting, so that the
-    walk forward meets the first of the best."""
+    walk forward meets the first of the best. The distortions are weighed cell by cell, once: a later scan's weight is that of its whole
+    square."""
 
     # keys are pairs of sums, of which the second stays below this
     SECOND = 1 << 31
@@ -205,6 +223,16 @@ class ByDynamicProgram:
     def __init__(self, table):
         self.table = table
         self.chosen = {}
+        first, *later = table.weights
+        spread = [first] * table.settings + [weight for weight in later for _ in range(table.settings ** 2)]
+        self.weighed = [weight * distortion for weight, distortion in zip(spread, table.distortions)]
+
+    def totals(self, plan):
+        """Rate, distortion and peak of a plan, from the weighed cells."""
+        square, places = self.table.settings ** 2, [plan[0]]
+        for scan in range(1, len(plan)):
+            places.append(self.table.settings + (scan - 1) * square + plan[scan - 1] * self.table.settings + plan[scan])
+        return [sum(self.table.rates[k] for k in places), sum(self.weighed[k] for k in places), max(self.table.distortions[k] for k in places)]
 
     def best(self, keys):
         """The plan with the least sum of its cells' keys (None: may not be used), or None."""
@@ -239,13 +267,13 @@ class ByDynamicProgram:
         return tuple(plan)
 
     def keyed(self, key, x=MOST_CELL):
-        return [
-            None if r == FORBIDDEN or d > x else key(r, d) for r, d in zip(self.table.rates, self.table.distortions)
-        ]
+        """The key of each cell, of its rate and its weighed distortion; the ceiling is asked of the plain one."""
+        each = zip(self.table.rates, self.table.distortions, self.weighed)
+        return [None if rate == FORBIDDEN or plain > x else key(rate, weighed) for rate, plain, weighed in each]
 
     def under(self, x):
         if ("under", x) not in self.chosen:
-            self.chosen["under", x] = self.best(self.keyed(lambda r, d: r * self.SECOND + d, min(x, MOST_CELL)))
+            self.chosen["under", x] = self.best(self.keyed(lambda r, w: r * self.SECOND + w, min(x, MOST_CELL)))
         return self.chosen["under", x]
 
     def choose(self, n, d):
@@ -265,10 +293,10 @@ class ByDynamicProgram:
         plan = self.under(x)
         if plan is None:
             raise Refusal(9)
-        return list(self.table.totals(plan)), plan
+        return self.totals(plan), plan
 
     def minmax(self, budget):
-        if self.table.totals(self.some_allowed())[0] > budget:
+        if self.totals(self.some_allowed())[0] > budget:
             raise Refusal(9)
         # the least X is a distortion cell, and a higher ceiling never needs more rate
         shown = sorted({d for r, d in zip(self.table.rates, self.table.distortions) if r != FORBIDDEN})
@@ -276,20 +304,20 @@ class ByDynamicProgram:
         while low < high:
             middle = (low + high) // 2
             plan = self.under(shown[middle])
-            if plan is not None and self.table.totals(plan)[0] <= budget:
+            if plan is not None and self.totals(plan)[0] <= budget:
                 high = middle
             else:
                 low = middle + 1
         plan = self.under(shown[low])
-        return [shown[low]] + list(self.table.totals(plan)), plan
+        return [shown[low]] + self.totals(plan), plan
 
     def multiplier(self, n, d):
         self.some_allowed()
         plan = self.choose(n, d)
-        return list(self.table.totals(plan)), plan
+        return self.totals(plan), plan
 
     def average(self, budget):
-        totals = self.table.totals
+        totals = self.totals
         low = totals(self.some_allowed())
         if low[0] > budget:
             raise Refusal(9)
@@ -327,16 +355,16 @@ def planned(maker, call, limits):
     return maker.average(limits[0])
 
 
-def answer(make, call, scans, settings, law, limits, rates, distortions, plan, scratch):
+def answer(make, call, scans, settings, law, limits, rates, distortions, weights, plan, scratch):
     """The number, the values and both buffers as the caller gets them back. `make` gives the maker for a table; limits are X, n and d, or
     B."""
-    early = early_refusal(call, scans, settings, law, limits, rates, distortions, len(plan), len(scratch))
+    early = early_refusal(call, scans, settings, law, limits, rates, distortions, weights, len(plan), len(scratch))
     if early:
         return early[0], [early[1]], plan, scratch
     used = scans * settings
     cleared = bytes(used) + scratch[used:]
     try:
-        values, settled = planned(make(Table(scans, settings, law, rates, distortions)), call, limits)
+        values, settled = planned(make(Table(scans, settings, law, rates, distortions, weights)), call, limits)
     except Refusal as late:
         return late.args[0], [0], plan, cleared
     return 0, values, bytes(settled) + plan[scans:], cleared
@@ -358,7 +386,7 @@ def worked():
 
         def ask(table, call, *limits):
             scans, settings, law, rates, distortions = table
-            got = answer(maker, call, scans, settings, law, limits, rates, distortions, b"\7" * 3, b"\7" * 9)
+            got = answer(maker, call, scans, settings, law, limits, rates, distortions, ones(scans), b"\7" * 3, b"\7" * 9)
             return got[0], got[1], tuple(got[2][:scans])
 
         def average(n, d, plan, floor):
@@ -404,7 +432,7 @@ def lawful():
     for maker in (ByTryingAll, ByDynamicProgram):
 
         def ask(law, call, *limits):
-            number, values, plan, _ = answer(maker, call, 2, 4, law, limits, *v, b"\7" * 2, b"\7" * 8)
+            number, values, plan, _ = answer(maker, call, 2, 4, law, limits, *v, ones(2), b"\7" * 2, b"\7" * 8)
             return number, values, tuple(plan)
 
         for law, plan, rate in ((0, (0, 3), 6), (1, (0, 2), 9), (2, (3, 0), 7)):
@@ -421,6 +449,77 @@ def lawful():
                 assert ask(law, call, *limits) == (3, [0], (7, 7))
 
 
+# Table T under law 1 by weights: what a call is asked, the number that comes back, the values and the settings.
+WEIGHED_T = [
+    ((2, 1), AVERAGE, (17,), 0, [3, 5, 13, 10, 6, 8], (0, 1)),
+    ((2, 1), AVERAGE, (12,), 0, [7, 2, 9, 24, 10, 14], (1, 1)),
+    ((0, 1), AVERAGE, (13,), 0, [1, 5, 13, 4, 7, 4], (1, 0)),
+    ((0, 1), CEILING, (7,), 0, [13, 4, 7], (1, 0)),
+    ((1, 1), CEILING, (7,), 0, [13, 8, 6], (0, 1)),
+    ((0, 1), MINMAX, (13,), 0, [6, 13, 6, 6], (0, 1)),
+    ((1, 0), AVERAGE, (13,), 0, [0, 1, 13, 2, 6, 2], (0, 1)),
+    ((1, 0), AVERAGE, (12,), 0, [5, 4, 9, 7, 10, 4], (1, 1)),
+    # nothing weighs: the least rate of all, at any budget that takes it
+    ((0, 0), AVERAGE, (9,), 0, [0, 1, 9, 0, 10, 0], (1, 1)),
+    ((0, 0), AVERAGE, (17,), 0, [0, 1, 9, 0, 10, 0], (1, 1)),
+    ((0, 0), AVERAGE, (2 ** 64 - 1,), 0, [0, 1, 9, 0, 10, 0], (1, 1)),
+    ((0, 0), AVERAGE, (8,), 9, [0], (7, 7)),
+    # a ceiling and an X of minmax are plain
+    ((0, 0), CEILING, (9,), 0, [13, 0, 6], (0, 1)),
+    ((0, 0), CEILING, (2,), 9, [0], (7, 7)),
+    ((0, 0), MINMAX, (17,), 0, [6, 13, 0, 6], (0, 1)),
+    ((255, 255), CEILING, (7,), 0, [13, 255 * 8, 6], (0, 1)),
+]
+
+# Distortion 3 of table T and the weights, with the lowest illegal cell. Cells 0 and 1 are of scan 0, the others of scan 1.
+ILLEGAL_T = [
+    (600000, (1, 2), 3),
+    (600000, (2, 1), None),
+    (524287, (1, 2), None),
+    (524287, (2, 2), None),
+    (524288, (1, 2), 3),
+    (524288, (2, 1), None),
+    (1048575, (255, 1), None),
+    (1048575, (255, 0), None),
+    (1048576, (1, 0), 3),
+    (1048576, (0, 0), 3),
+    (4112, (255, 255), None),
+    (4113, (255, 255), 3),
+]
+
+
+def weighed():
+    """Request [5]: table T with unequal weights, lengths of weights that are not N, illegal products, and the scan of every cell."""
+    rates, distortions = [10, 4, 8, 3, 9, 5], [2, 7, 3, 6, 4, 10]
+    every = [(CEILING, 1048575), (MULTIPLIER, 1, 1), (MINMAX, 2 ** 64 - 1), (AVERAGE, 2 ** 64 - 1)]
+    for maker in (ByTryingAll, ByDynamicProgram):
+
+        def ask(call, limits, weights, rates=rates, distortions=distortions, plan=2, scratch=4):
+            number, values, plan, _ = answer(maker, call, 2, 2, 1, limits, rates, distortions, weights, b"\7" * plan, b"\7" * scratch)
+            return number, values, tuple(plan)
+
+        for weights, call, limits, *right in WEIGHED_T:
+            assert ask(call, limits, bytes(weights)) == tuple(right), (weights, call, limits)
+        for call, *limits in every:
+            for size in (0, 1, 3, 4, 6):
+                # 5 comes before a short buffer and an illegal cell
+                assert ask(call, limits, bytes(size))[:2] == (5, [0])
+                assert ask(call, limits, bytes(size), distortions=[2 ** 20] * 6, plan=0)[:2] == (5, [0])
+            assert ask(call, limits, bytes([1, 1]), distortions=[2 ** 20] * 6, scratch=3)[:2] == (6, [0])
+            for distortion, weights, illegal in ILLEGAL_T:
+                changed = distortions[:3] + [distortion] + distortions[4:]
+                number, values, _ = ask(call, limits, bytes(weights), distortions=changed)
+                assert (number, values) == (7, [illegal]) if illegal is not None else number == 0
+                # beside a forbidden rate nothing is illegal, by itself or by its product
+                for hidden in (distortion, 4294967295):
+                    closed = rates[:3] + [FORBIDDEN] + rates[4:], distortions[:3] + [hidden] + distortions[4:]
+                    assert ask(call, limits, bytes(weights), *closed)[0] == 0
+    for settings in range(1, MOST_SETTINGS + 1):
+        places = [(scan, p, q) for scan in range(4) for p in range(settings if scan else 1) for q in range(settings)]
+        assert [cell(settings, *place) for place in places] == list(range(cells(4, settings)))
+        assert [scan_of(settings, k) for k in range(cells(4, settings))] == [place[0] for place in places]
+
+
 def outcome(maker, call, *limits):
     try:
         return planned(maker, call, limits)
@@ -435,12 +534,23 @@ def agree(table, budgets, ceilings, multipliers):
     asked += [(CEILING, x) for x in ceilings] + [(MULTIPLIER,) + m for m in multipliers]
     for call, *limits in asked:
         assert outcome(tried, call, *limits) == outcome(programmed, call, *limits), (vars(table), call, limits)
+    for plan, *totals in tried.allowed:
+        assert programmed.totals(plan) == totals
     return len(asked)
+
+
+def random_weights(draw, scans, top):
+    """Weights at which distortions up to `top` are legal: often few values, and now and then all 1."""
+    most = min(255, MOST_CELL // max(top, 1))
+    few = draw.choice([[1], [0, 1], [0, 1, 2], [0, 1, 2, 255], [1, 2, 3], [254, 255], range(256)])
+    few = [weight for weight in few if weight <= most] or [0, 1]
+    return bytes(draw.choice(few) for _ in range(scans))
 
 
 def main():
     worked()
     lawful()
+    weighed()
     draw = random.Random(20)
     asked = 0
     for _ in range(2000):
@@ -450,7 +560,11 @@ def main():
         size = cells(scans, settings)
         rates = [FORBIDDEN if draw.random() < 0.15 else draw.randint(0, span) for _ in range(size)]
         distortions = [draw.randint(0, draw.choice([span, 3])) for _ in range(size)]
-        table = Table(scans, settings, draw.choice(LAWS), rates, distortions)
+        # a forbidden cell's distortion is never met
+        distortions = [draw.choice([d, FORBIDDEN]) if r == FORBIDDEN else d for r, d in zip(rates, distortions)]
+        weights = random_weights(draw, scans, max([d for r, d in zip(rates, distortions) if r != FORBIDDEN], default=0))
+        assert lowest_illegal(settings, rates, distortions, weights) is None
+        table = Table(scans, settings, draw.choice(LAWS), rates, distortions, weights)
         budgets = [0, 2 ** 64 - 1] + [draw.randint(0, (span + 1) * scans) for _ in range(3)]
         multipliers = [(0, 1), (1, 1), (MOST_TERM, 1), (1, MOST_TERM), (draw.randint(0, 9), draw.randint(1, 9))]
         asked += agree(table, budgets, [0, draw.choice(distortions), draw.randint(0, span), FORBIDDEN], multipliers)

@@ -9,7 +9,7 @@ from planner import AVERAGE, CEILING, MINMAX, MULTIPLIER
 
 NAMES = {CEILING: "ceiling", MULTIPLIER: "multiplier", MINMAX: "minmax", AVERAGE: "average"}
 NEEDS = {CEILING: 24, MULTIPLIER: 24, MINMAX: 32, AVERAGE: 48}
-ROOM_NEEDS, READ_NEEDS, EXPORT_NEEDS = 24, 96, 8
+ROOM_NEEDS, READ_NEEDS, EXPORT_NEEDS = 24, 104, 8
 
 # Document 01's orders: a buffer that is too short is 6, after these and before all others.
 BEFORE_ROOM = {1, 2, 3, 4, 5, 11, 12, 13}
@@ -33,12 +33,12 @@ def room_call(channels, scans, settings, answer):
     return 0, with_values(values, answer)
 
 
-def plan_call(make, call, scans, settings, law, limits, rates, distortions, plan, scratch, answer):
+def plan_call(make, call, scans, settings, law, limits, rates, distortions, weights, plan, scratch, answer):
     """The number, and the buffers answer, plan and scratch."""
     if len(answer) < NEEDS[call]:
-        early = planner.early_refusal(call, scans, settings, law, limits, rates, distortions, len(plan), len(scratch))
+        early = planner.early_refusal(call, scans, settings, law, limits, rates, distortions, weights, len(plan), len(scratch))
         return word(*early) if early and early[0] in BEFORE_ROOM else word(6, 0), answer, plan, scratch
-    number, values, plan, scratch = planner.answer(make, call, scans, settings, law, limits, rates, distortions, plan, scratch)
+    number, values, plan, scratch = planner.answer(make, call, scans, settings, law, limits, rates, distortions, weights, plan, scratch)
     if number:
         return word(number, values[0]), answer, plan, scratch
     return 0, with_values(values, answer), plan, scratch
@@ -53,7 +53,7 @@ def read_call(file, plan, answer):
         return word(6, 0) if short and refusal.args[0] not in BEFORE_ROOM else word(*refusal.args), answer, plan
     if short:
         return word(6, 0), answer, plan
-    return 0, with_values([f[name] for name in planfile.NAMES] + [version], answer), bytes(settings) + plan[len(settings) :]
+    return 0, with_values(planfile.values_of(f, version), answer), bytes(settings) + plan[len(settings) :]
 
 
 def write_call(f, settings, file):

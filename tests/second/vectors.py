@@ -7,8 +7,9 @@ bench` for crates/bench and crates/bench_cases with the texts of texts.py and th
 the place of crates/. The same bytes come out at each run.
 
 The form of the input stands in each crate's src/main.rt, that of the output in plan_calls.py, file_calls.py and buffers.py; of lists both
-stand in list_vectors.py. The cases stand in the modules plan_*.py, file_*.py and list_*.py, which plan_vectors.py, file_vectors.py and
-list_vectors.py put in their order."""
+stand in list_vectors.py. Groups of planning calls that say nothing of weights are told as they were before there were any, and are lent a
+1 for each scan (plan_calls.py). The cases stand in the modules plan_*.py, file_*.py and list_*.py, which plan_vectors.py, file_vectors.py
+and list_vectors.py put in their order."""
 
 import os
 import sys

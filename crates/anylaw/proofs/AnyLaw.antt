@@ -15,7 +15,7 @@ use Rattle.promise.proofs.Unique.{ceiling-settled, multiplier-settled, minmax-s
 use Rattle.promise.proofs.Exactly.{ceiling-exactly, multiplier-exactly, minmax-exactly, average-exactly}
 use Rattle.promise.proofs.Demands.{demand-answered-under}
 use Rattle.planfile.proofs.Back.{written-keeps}
-use Rattle.planfile.proofs.Accepted.{accepted-keeps, accepted-file-under, accepted-known-under, accepted-plan-under}
+use Rattle.planfile.proofs.Accepted.{accepted-keeps, accepted-file-under, accepted-known-under, accepted-held-under, accepted-plan-under}
 use Rattle.filing.proofs.CanBeWritten.{reads-back-under, average-written-under, minmax-written-under, average-read-back-under, minmax-read-back-under}
 use Rattle.anylaw.specs.Passes.{PassesHold}
 use Rattle.anylaw.specs.Demands.{OneAnswer, AnswersRight, DemandsHold}
@@ -51,25 +51,26 @@ pub any-law : {law : Law} {test : ℕ → ℕ → Bool} → Tests test law → P
 any-law {law} {test} tests = (
   any-pass law,
   record {
-    answers = λ lawless N Q rates distortions plan scratch.
-        answers-right (asking-under lawless law N Q rates distortions (length plan) (length scratch)) tests plan scratch;
-    proves = λ lawless N Q rates distortions plan scratch B m h.
-        demand-answered-under {a = asking-under lawless law N Q rates distortions (length plan) (length scratch)} tests m h;
+    answers = λ lawless N Q rates distortions weights plan scratch.
+        answers-right (asking-under lawless law N Q rates distortions weights (length plan) (length scratch)) tests plan scratch;
+    proves = λ lawless N Q rates distortions weights plan scratch B m h.
+        demand-answered-under {a = asking-under lawless law N Q rates distortions weights (length plan) (length scratch)} tests m h;
     writes = λ lawless f settings room w. written-keeps lawless test f settings room w tests;
     reads-back = λ lawless f settings room w b h. reads-back-under lawless test f settings room w b h;
     accepts = λ lawless file room bytes e. record {
       keeps = accepted-keeps lawless test file room e tests;
       known = accepted-known-under lawless test file room e;
+      held = accepted-held-under lawless test file room e;
       same = accepted-file-under lawless test file room e bytes;
       written = accepted-plan-under lawless test file room e;
     };
-    files-average = λ lawless N Q rates distortions plan scratch B number m h b l.
-        let a = asking-under lawless law N Q rates distortions (length plan) (length scratch) in record {
+    files-average = λ lawless N Q rates distortions weights plan scratch B number m h b l.
+        let a = asking-under lawless law N Q rates distortions weights (length plan) (length scratch) in record {
           written = λ room. average-written-under {a = a} tests number room m h;
           reads-back = average-read-back-under {a = a} tests number m h b l;
         };
-    files-minmax = λ lawless N Q rates distortions plan scratch B number m h b l.
-        let a = asking-under lawless law N Q rates distortions (length plan) (length scratch) in record {
+    files-minmax = λ lawless N Q rates distortions weights plan scratch B number m h b l.
+        let a = asking-under lawless law N Q rates distortions weights (length plan) (length scratch) in record {
           written = λ room. minmax-written-under {a = a} tests number room m h;
           reads-back = minmax-read-back-under {a = a} tests number m h b l;
         };

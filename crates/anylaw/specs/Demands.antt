@@ -23,7 +23,7 @@ use Rattle.promise.specs.Promise.{plan-reply, minmax-reply, average-reply, Ceil
 use Rattle.promise.specs.Says.{SomeAnswer, SaysExactly, Answered}
 use Rattle.rules.specs.declared.Fields.{Fields}
 use Rattle.blocks.specs.Letters.{Known, version-of}
-use Rattle.blocks.specs.File.{file-length, file-of, entry-at}
+use Rattle.blocks.specs.File.{InVersion, file-length, file-of, entry-at}
 use Rattle.entries.specs.Entries.{KeepsLaw}
 use Rattle.planfile.specs.Reading.{fields-of, entries, read-refusal-under}
 use Rattle.planfile.specs.Writing.{write-refusal-under}
@@ -48,11 +48,13 @@ pub record AnswersRight (a : Asked) (plan scratch : List ℕ) : Type 0 where
   pub minmax-says : (B : ℕ) {p s : List ℕ} (r : MinmaxAnswer) → MinmaxPromise a B plan scratch r p s → SaysExactly none a (InBudget (problem-of a) B) (minmax-reply r)
   pub average-says : (B : ℕ) {p s : List ℕ} (r : AverageAnswer) → AveragePromise a B plan scratch r p s → SaysExactly none a (InBudget (problem-of a) B) (average-reply r)
 
--- The settings of an accepted file keep the law. Its letters are QPL1 or QPL2, it is the file of the plan that is read from it in that version,
--- and the writer takes that plan; so in QPL2 it is the file that the writer writes.
+-- The settings of an accepted file keep the law. Its letters are QPL1 or QPL2, that version can hold the plan that is read from it (the mark of
+-- weights is QPL2's), it is the file of that plan in that version, and the writer takes the plan; so in QPL2 it is the file that the writer
+-- writes.
 pub record IsPlansFile (lawless : Bool) (law : Law) (test : ℕ → ℕ → Bool) (file : List ℕ) : Type 0 where
   pub keeps : KeepsLaw law (fields-of file .scans) (fields-of file .settings) (entry-at file)
   pub known : Known (version-of file)
+  pub held : InVersion (version-of file) (fields-of file)
   pub same : file-of (version-of file) (fields-of file) (entries (entry-at file) 0 (fields-of file .scans)) ≡ file
   pub written : (room : ℕ) → file-length (fields-of file .scans) ≤ room →
       write-refusal-under lawless test (fields-of file) (entries (entry-at file) 0 (fields-of file .scans)) room ≡ none
@@ -66,12 +68,12 @@ pub record HasFile (lawless : Bool) (test : ℕ → ℕ → Bool) (f : Fields) (
 -- file.
 pub record DemandsHold (law : Law) (test : ℕ → ℕ → Bool) : Type 0 where
   -- demand 2, of every question
-  pub answers : (lawless : Bool) (N Q : ℕ) (rates distortions plan scratch : List ℕ) →
-      AnswersRight (asking-under lawless law N Q rates distortions (length plan) (length scratch)) plan scratch
+  pub answers : (lawless : Bool) (N Q : ℕ) (rates distortions weights plan scratch : List ℕ) →
+      AnswersRight (asking-under lawless law N Q rates distortions weights (length plan) (length scratch)) plan scratch
   -- demand 3, of every average plan that is given
-  pub proves : (lawless : Bool) (N Q : ℕ) (rates distortions plan scratch : List ℕ) (B : ℕ) {p s : List ℕ} (m : AveragePlan) →
-      AveragePromise (asking-under lawless law N Q rates distortions (length plan) (length scratch)) B plan scratch (average-answer.Planned m) p s →
-      Answered (asking-under lawless law N Q rates distortions (length plan) (length scratch)) B m plan p
+  pub proves : (lawless : Bool) (N Q : ℕ) (rates distortions weights plan scratch : List ℕ) (B : ℕ) {p s : List ℕ} (m : AveragePlan) →
+      AveragePromise (asking-under lawless law N Q rates distortions weights (length plan) (length scratch)) B plan scratch (average-answer.Planned m) p s →
+      Answered (asking-under lawless law N Q rates distortions weights (length plan) (length scratch)) B m plan p
   -- what is written keeps the law
   pub writes : (lawless : Bool) (f : Fields) (settings : List ℕ) (room : ℕ) → write-refusal-under lawless test f settings room ≡ none →
       KeepsLaw law (f .scans) (f .settings) (λ j. getD settings j 0)
@@ -82,9 +84,9 @@ pub record DemandsHold (law : Law) (test : ℕ → ℕ → Bool) : Type 0 where
   pub accepts : (lawless : Bool) (file : List ℕ) (room : ℕ) → ((i : ℕ) → getD file i 0 < 256) → read-refusal-under lawless test file room ≡ none →
       IsPlansFile lawless law test file
   -- and every plan that is given with a budget has a file
-  pub files-average : (lawless : Bool) (N Q : ℕ) (rates distortions plan scratch : List ℕ) (B number : ℕ) {p s : List ℕ} (m : AveragePlan) →
-      AveragePromise (asking-under lawless law N Q rates distortions (length plan) (length scratch)) B plan scratch (average-answer.Planned m) p s →
-      number < 256 → B < 2 ^ 64 → HasFile lawless test (average-fields N Q number B m) p
-  pub files-minmax : (lawless : Bool) (N Q : ℕ) (rates distortions plan scratch : List ℕ) (B number : ℕ) {p s : List ℕ} (m : MinmaxPlan) →
-      MinmaxPromise (asking-under lawless law N Q rates distortions (length plan) (length scratch)) B plan scratch (minmax-answer.Planned m) p s →
-      number < 256 → B < 2 ^ 64 → HasFile lawless test (minmax-fields N Q number B m) p
+  pub files-average : (lawless : Bool) (N Q : ℕ) (rates distortions weights plan scratch : List ℕ) (B number : ℕ) {p s : List ℕ} (m : AveragePlan) →
+      AveragePromise (asking-under lawless law N Q rates distortions weights (length plan) (length scratch)) B plan scratch (average-answer.Planned m) p s →
+      number < 256 → B < 2 ^ 64 → HasFile lawless test (average-fields N Q number B weights m) p
+  pub files-minmax : (lawless : Bool) (N Q : ℕ) (rates distortions weights plan scratch : List ℕ) (B number : ℕ) {p s : List ℕ} (m : MinmaxPlan) →
+      MinmaxPromise (asking-under lawless law N Q rates distortions weights (length plan) (length scratch)) B plan scratch (minmax-answer.Planned m) p s →
+      number < 256 → B < 2 ^ 64 → HasFile lawless test (minmax-fields N Q number B weights m) p

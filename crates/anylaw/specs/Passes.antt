@@ -13,6 +13,6 @@ use Rattle.trellis.specs.Pass.{PassOf, pass-problem}
 
 -- a pass that is made of steps, each over the settings below Q that the law allows, leaves the best sequence, or says truly that there is none
 pub record PassesHold (law : Law) : Type 0 where
-  pub passes : {N Q room : ℕ} {rates distortions : List ℕ} → Fit N Q rates distortions room → (rule : Rule) → Light rule →
-      {before after : List ℕ} {found : Bool} → Made (table-under law N Q rates distortions) rule before after found →
-      PassOf (pass-problem (rule .ceiling) (table-under law N Q rates distortions)) N Q rule before after found
+  pub passes : {N Q room : ℕ} {rates distortions weights : List ℕ} → Fit N Q rates distortions weights room → (rule : Rule) → Light rule →
+      {before after : List ℕ} {found : Bool} → Made (table-under law N Q rates distortions weights) rule before after found →
+      PassOf (pass-problem (rule .ceiling) (table-under law N Q rates distortions weights)) N Q rule before after found

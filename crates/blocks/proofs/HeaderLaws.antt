@@ -10,8 +10,12 @@ use Rattle.rules.specs.declared.Fields.{Fields}
 use Rattle.bytes.specs.Bytes.{le, value}
 use Rattle.blocks.specs.Letters.{qpl2, letters}
 use Rattle.blocks.specs.BlockCheck.{sum}
-use Rattle.blocks.specs.File.{header}
+use Rattle.blocks.specs.File.{InVersion, header}
 use Rattle.blocks.proofs.SumLaws.{ByteSum, _joins_, small-le, small-zeros}
+
+-- QPL2 holds every plan
+pub held-in-qpl2 : (f : Fields) → InVersion qpl2 f
+held-in-qpl2 f e = absurd (omega (arith, e))
 
 -- the header is 508 bytes
 pub length-header : (version : ℕ) (f : Fields) → length (header version f) ≡ 508
@@ -31,9 +35,9 @@ pub small-header : (version : ℕ) (f : Fields) → ByteSum (header version f)
 unfolding header
 small-header version f =
     small-le 4 0 joins small-letters version joins small-le 2 (f .scans) joins small-le 1 (f .settings) joins small-le 1 (f .law)
-    joins small-le 1 (f .kind) joins small-zeros 3 joins small-le 8 (f .budget) joins small-le 4 (f .n) joins small-le 4 (f .d)
-    joins small-le 4 (f .rate .0) joins small-le 4 (f .distortion .0) joins small-le 4 (f .peak) joins small-le 4 (f .floor .0)
-    joins small-zeros 460
+    joins small-le 1 (f .kind) joins small-le 1 (f .weighted) joins small-zeros 2 joins small-le 8 (f .budget) joins small-le 4 (f .n)
+    joins small-le 4 (f .d) joins small-le 4 (f .rate .0) joins small-le 4 (f .distortion .0) joins small-le 4 (f .peak)
+    joins small-le 4 (f .floor .0) joins small-zeros 460
 
 -- the header starts with number 0
 pub header-number : (version : ℕ) (f : Fields) → value (take 4 (header version f)) ≡ 0

@@ -1,4 +1,4 @@
--- The sizes of document 01, "Plan file". Assumes nothing.
+-- The sizes of document 01, "Plan file", with document 02, [5]. Assumes nothing.
 use Prim.Native.Nat.{ℕ}
 
 -- "Blocks of 512 bytes", of which "bytes 508 to 511" are the check
@@ -22,9 +22,12 @@ short-file = 1024
 abbrev pub long-file : ℕ
 long-file = 1536
 
--- "13 to 15: zero" and "48 to 507: zero"
+-- "13 to 15: zero" in QPL1; in QPL2 "14 to 15 stay zero"; and "48 to 507: zero"
 abbrev pub first-run : ℕ
 first-run = 3
+
+abbrev pub short-run : ℕ
+short-run = 2
 
 abbrev pub last-run : ℕ
 last-run = 460

@@ -14,7 +14,9 @@ pub const SHORT_FILE: usize = 1024;
 
 pub const LONG_FILE: usize = 1536;
 
-// The runs of zeros of block 0.
+// The runs of zeros of block 0: from byte 13 on in QPL1; from 14 on in QPL2, where byte 13 is a field; and the last.
 pub const FIRST_RUN: usize = 3;
+
+pub const SHORT_RUN: usize = 2;
 
 pub const LAST_RUN: usize = 460;

@@ -4,7 +4,7 @@ use Rattle.tables.specs.Tables.{Table}
 use Rattle.tables.specs.Legal.{LegalTable}
 use Rattle.checks.specs.Fit.{Fit}
 
-pub fit-legal : {t : Table} {room : ℕ} → Fit (t .N) (t .Q) (t .rates) (t .distortions) room → LegalTable t
+pub fit-legal : {t : Table} {room : ℕ} → Fit (t .N) (t .Q) (t .rates) (t .distortions) (t .weights) room → LegalTable t
 fit-legal f = record {
   some-scans = f .some-scans;
   scans = f .scans;
@@ -12,5 +12,6 @@ fit-legal f = record {
   settings = f .settings;
   rates = f .rates-long;
   distortions = f .distortions-long;
+  weights = f .weights-long;
   legal = f .legal;
 }

@@ -1,6 +1,6 @@
 -- The checks 1 to 7: what each stage of them tells, and what a call that passes them knows. Assumes nothing.
 use mathlib.Core.Path.{sym, _≡_, refl, ap, _∙_}
-use mathlib.Core.Bool.{Bool, false}
+use mathlib.Core.Bool.{Bool, false, _||_}
 use mathlib.Core.Option.{Option, none, some}
 use mathlib.Core.List.{List, [], _∷_, _++_}
 use Prim.Native.Nat.{ℕ, _≤_}
@@ -8,9 +8,7 @@ use lib.Dec.{ltb}
 use lib.ListN.{length}
 use borrow.Author.Tests.{eqb-true, ltb-false, not-false}
 use Rattle.laws.proofs.Tests.{neither, never}
-use Rattle.legal.specs.declared.Legality.{Legality}
-use Rattle.legal.specs.declared.Legality.the-variants.{Legal, Illegal}
-use Rattle.legal.specs.Judged.{Judged, legality-refusal, all-legal, not-legal}
+use Rattle.legal.specs.Judged.{Judged, all-legal, not-legal}
 use Rattle.legal.proofs.LegalLaws.{lowest-illegal-unique, not-both}
 use Rattle.tables.specs.declared.refusal.Refusal.{Refusal}
 use Rattle.tables.specs.declared.refusal.Refusal.the-variants as refusal
@@ -19,21 +17,12 @@ use Rattle.tables.specs.Tables.{cells, scratch-need}
 use Rattle.checks.specs.declared.stage.Stage.{Stage}
 use Rattle.checks.specs.declared.stage.Stage.the-variants.{Stopped}
 use Rattle.checks.specs.Checks.{zero-or-over, when, or-else, first-refusal}
-use Rattle.checks.specs.Planning.{Asked, Unsound, Sound, early, illegal, early-refusal, range-checks, scans-out, settings-out, lengths-out, buffers-short, multiplier-out}
+use Rattle.checks.specs.Planning.{Asked, Unsound, Sound, early, illegal, early-refusal, range-checks, scans-out, settings-out, lengths-out, weights-out, buffers-short, weigh-of, multiplier-out}
 use Rattle.checks.specs.Stages.{ended, CheckedAs}
 use Rattle.checks.specs.Fit.{Fit}
 use Rattle.checks.proofs.GiveLaws.{Gives, gives-first, gives-when}
 use Rattle.checks.proofs.RangeLaws.{in-range}
 use Rattle.checks.proofs.CheckLaws.{none-when, all-pass, first-append}
-
--- check 7 alone, by what the legality check answers
-pub cells-legal : {rates distortions : List ℕ} {v : Legality} → Judged rates distortions (legality-refusal v) → v ≡ Legal →
-    Judged rates distortions none
-cells-legal j e = rw e at j
-
-pub cells-illegal : {rates distortions : List ℕ} {v : Legality} {k : ℕ} → Judged rates distortions (legality-refusal v) → v ≡ Illegal k →
-    Judged rates distortions (some (refusal.Cell k))
-cells-illegal j e = rw e at j
 
 -- numbers that passed 1 and 2 are in their range
 pub in-ranges : (most N Q : ℕ) (lawless : Bool) → first-refusal (range-checks most N Q lawless) ≡ none →
@@ -47,12 +36,24 @@ pub lengths-exact : (N Q : ℕ) (rates distortions : List ℕ) → lengths-out N
     (length rates ≡ cells N Q) × (length distortions ≡ cells N Q)
 lengths-exact N Q rates distortions e = let b = neither _ _ e in (eqb-true _ _ (not-false _ (b .0)), eqb-true _ _ (not-false _ (b .1)))
 
+-- check 5
+abbrev pub sizes-out : Asked → Bool
+sizes-out a = lengths-out (a .N) (a .Q) (a .rates) (a .distortions) || weights-out (a .N) (a .weights)
+
 -- the checks 5 and 6
 abbrev pub size-checks : Asked → List (Option Refusal)
 size-checks a =
-    when (lengths-out (a .N) (a .Q) (a .rates) (a .distortions)) refusal.Lengths
+    when (sizes-out a) refusal.Lengths
     ∷ when (buffers-short (a .N) (a .Q) (a .plan) (a .scratch)) refusal.Buffer
     ∷ []
+
+-- lengths that passed it
+pub sizes-exact : (a : Asked) → sizes-out a ≡ false →
+    (length (a .rates) ≡ cells (a .N) (a .Q)) × (length (a .distortions) ≡ cells (a .N) (a .Q)) × (length (a .weights) ≡ a .N)
+sizes-exact a e =
+    let b = neither _ _ e in
+    let l = lengths-exact (a .N) (a .Q) (a .rates) (a .distortions) (b .0) in
+    (l .0, l .1, eqb-true _ _ (not-false _ (b .1)))
 
 -- the checks 1 to 3
 abbrev pub range-refusal : Asked → Option Refusal
@@ -64,7 +65,7 @@ pub record Admitted (further : Option Refusal) (a : Asked) : Type 0 where
   pub settings : settings-out (a .Q) ≡ false
   pub law : a .lawless ≡ false
   pub further-passed : further ≡ none
-  pub lengths : lengths-out (a .N) (a .Q) (a .rates) (a .distortions) ≡ false
+  pub lengths : sizes-out a ≡ false
   pub buffers : buffers-short (a .N) (a .Q) (a .plan) (a .scratch) ≡ false
 
 module _ (further : Option Refusal) (a : Asked) where
@@ -96,7 +97,7 @@ module _ (further : Option Refusal) (a : Asked) where
 
   -- where none of them refuses, the cells decide
   pub cells-decide : {o : Option Refusal} → range-refusal a ≡ none → further ≡ none → first-refusal (size-checks a) ≡ none →
-      Judged (a .rates) (a .distortions) o → CheckedAs further a o
+      Judged (weigh-of a) (a .rates) (a .distortions) o → CheckedAs further a o
   cells-decide e f g (all-legal h) = record { passed = early-parts ∙ rw (e, f, g) refl; legal = h }
   cells-decide e f g (not-legal h) = illegal (early-parts ∙ rw (e, f, g) refl) h
 
@@ -121,10 +122,10 @@ module _ {further : Option Refusal} {a : Asked} where
       (ltb-false _ _ (b .0), ltb-false _ _ (b .1))
 
   -- a sound call is one that a pass can be asked, lends room for the plan, and has passed the further check
-  pub sound-fit : Sound further a → Fit (a .N) (a .Q) (a .rates) (a .distortions) (a .scratch)
+  pub sound-fit : Sound further a → Fit (a .N) (a .Q) (a .rates) (a .distortions) (a .weights) (a .scratch)
   sound-fit s =
       let p = admitted (s .passed) in
-      let l = lengths-exact (a .N) (a .Q) (a .rates) (a .distortions) (p .lengths) in
+      let l = sizes-exact a (p .lengths) in
       record {
         some-scans = in-range (p .scans) .0;
         scans = in-range (p .scans) .1;
@@ -132,6 +133,7 @@ module _ {further : Option Refusal} {a : Asked} where
         settings = in-range (p .settings) .1;
         rates-long = l .0;
         distortions-long = l .1;
+        weights-long = l .2;
         legal = s .legal;
         room = long-enough p .1;
       }
@@ -150,11 +152,11 @@ module _ {further : Option Refusal} {a : Asked} where
   unsound-unique (early e) (early e′) = cc
   unsound-unique (early e) (illegal e′ l) = never (cc)
   unsound-unique (illegal e l) (early e′) = never (cc)
-  unsound-unique (illegal e l) (illegal e′ l′) = ap refusal.Cell (lowest-illegal-unique (a .rates) (a .distortions) l l′)
+  unsound-unique (illegal e l) (illegal e′ l′) = ap refusal.Cell (lowest-illegal-unique (weigh-of a) (a .rates) (a .distortions) l l′)
 
   pub sound-or-not : {r : Refusal} → Unsound further a r → Sound further a → ⊥
   sound-or-not (early e) s = let p = s .passed in never (cc)
-  sound-or-not (illegal e l) s = not-both (a .rates) (a .distortions) l (s .legal)
+  sound-or-not (illegal e l) s = not-both (weigh-of a) (a .rates) (a .distortions) l (s .legal)
 
 -- a multiplier that passed check 4 is in its range
 pub multiplier-in : {n d : ℕ} → when (multiplier-out n d) refusal.Multiplier ≡ none → (n ≤ most-term) × ((1 ≤ d) × (d ≤ most-term))
@@ -177,7 +179,7 @@ early-gives P further a one two three f five six =
           (
             f,
             (
-              gives-when P (lengths-out (a .N) (a .Q) (a .rates) (a .distortions)) refusal.Lengths five,
+              gives-when P (sizes-out a) refusal.Lengths five,
               (gives-when P (buffers-short (a .N) (a .Q) (a .plan) (a .scratch)) refusal.Buffer six, tt),
             ),
           ),

@@ -12,7 +12,7 @@ use Rattle.tables.specs.declared.refusal.Refusal.the-variants as refusal
 use Rattle.tables.specs.Limits.{most-scans, most-settings, most-term, most-channels}
 use Rattle.tables.specs.Law.{Law, law-of, law-out}
 use Rattle.tables.specs.Tables.{Table, cells, scratch-need, table-under, planning}
-use Rattle.tables.specs.Legal.{AllLegal, LowestIllegal}
+use Rattle.tables.specs.Legal.{weights-by-scan, AllLegal, LowestIllegal}
 use Rattle.checks.specs.Checks.{zero-or-over, when, first-refusal}
 
 -- 1: "N is 0 or over 1,024"
@@ -30,6 +30,10 @@ multiplier-out n d = ltb most-term n || zero-or-over most-term d
 -- 5: "rate or distortion table not of the exact length"
 abbrev pub lengths-out : ℕ → ℕ → List ℕ → List ℕ → Bool
 lengths-out N Q rates distortions = not (eqb (length rates) (cells N Q)) || not (eqb (length distortions) (cells N Q))
+
+-- document 02, [5]: "5 also covers a weight slice that is not N long"
+abbrev pub weights-out : ℕ → List ℕ → Bool
+weights-out N weights = not (eqb (length weights) N)
 
 -- 6: "a lent buffer shorter than needed": "Plan buffers need N bytes and scratch N × Q"
 abbrev pub buffers-short : ℕ → ℕ → ℕ → ℕ → Bool
@@ -50,8 +54,8 @@ abbrev pub planning-checks : (most N Q : ℕ) (lawless : Bool) → Option Refusa
 planning-checks most N Q lawless further lengths buffers =
     range-checks most N Q lawless ++ (further ∷ when lengths refusal.Lengths ∷ when buffers refusal.Buffer ∷ [])
 
--- What a planning call is asked, but for its limit: the numbers, the tables and the lengths of the lent buffers. Of its law it holds which
--- pairs it allows, and whether it is none of those that the call takes; no number, so what is said of questions is said of any law.
+-- What a planning call is asked, but for its limit: the numbers, the tables, the weights and the lengths of the lent buffers. Of its law it
+-- holds which pairs it allows, and whether it is none of those that the call takes; no number, so what is said of questions is said of any law.
 pub record Asked : Type 1 where
   pub N : ℕ
   pub Q : ℕ
@@ -59,19 +63,29 @@ pub record Asked : Type 1 where
   pub law : Law
   pub rates : List ℕ
   pub distortions : List ℕ
+  pub weights : List ℕ
   pub plan : ℕ
   pub scratch : ℕ
 
-abbrev pub asking-under : (lawless : Bool) (law : Law) (N Q : ℕ) (rates distortions : List ℕ) (plan scratch : ℕ) → Asked
-asking-under lawless law N Q rates distortions plan scratch =
-    record { N = N; Q = Q; lawless = lawless; law = law; rates = rates; distortions = distortions; plan = plan; scratch = scratch }
+abbrev pub asking-under : (lawless : Bool) (law : Law) (N Q : ℕ) (rates distortions weights : List ℕ) (plan scratch : ℕ) → Asked
+asking-under lawless law N Q rates distortions weights plan scratch = record {
+  N = N;
+  Q = Q;
+  lawless = lawless;
+  law = law;
+  rates = rates;
+  distortions = distortions;
+  weights = weights;
+  plan = plan;
+  scratch = scratch;
+}
 
 -- .. with its law by number
-abbrev pub asking : (N Q law : ℕ) (rates distortions : List ℕ) (plan scratch : ℕ) → Asked
-asking N Q law rates distortions plan scratch = asking-under (law-out law) (law-of law) N Q rates distortions plan scratch
+abbrev pub asking : (N Q law : ℕ) (rates distortions weights : List ℕ) (plan scratch : ℕ) → Asked
+asking N Q law rates distortions weights plan scratch = asking-under (law-out law) (law-of law) N Q rates distortions weights plan scratch
 
 abbrev pub table-of : Asked → Table
-table-of a = table-under (a .law) (a .N) (a .Q) (a .rates) (a .distortions)
+table-of a = table-under (a .law) (a .N) (a .Q) (a .rates) (a .distortions) (a .weights)
 
 abbrev pub problem-of : Asked → Problem
 problem-of a = planning (table-of a)
@@ -83,15 +97,19 @@ fourth-check n d = when (multiplier-out n d) refusal.Multiplier
 -- the first refusal of the checks 1 to 6
 unfoldable pub early-refusal : Option Refusal → Asked → Option Refusal
 early-refusal further a =
-    first-refusal (planning-checks most-scans (a .N) (a .Q) (a .lawless) further (lengths-out (a .N) (a .Q) (a .rates) (a .distortions))
-    (buffers-short (a .N) (a .Q) (a .plan) (a .scratch)))
+    first-refusal (planning-checks most-scans (a .N) (a .Q) (a .lawless) further
+    (lengths-out (a .N) (a .Q) (a .rates) (a .distortions) || weights-out (a .N) (a .weights)) (buffers-short (a .N) (a .Q) (a .plan) (a .scratch)))
+
+-- the weight of each cell
+abbrev pub weigh-of : Asked → ℕ → ℕ
+weigh-of a = weights-by-scan (a .Q) (a .weights)
 
 -- one of the checks 1 to 7 fails, and this is the refusal of the first that does
 pub data Unsound (further : Option Refusal) (a : Asked) : Refusal → Type 0 where
   early : {r : Refusal} → early-refusal further a ≡ some r → Unsound further a r
-  illegal : {k : ℕ} → early-refusal further a ≡ none → LowestIllegal (a .rates) (a .distortions) k → Unsound further a (refusal.Cell k)
+  illegal : {k : ℕ} → early-refusal further a ≡ none → LowestIllegal (weigh-of a) (a .rates) (a .distortions) k → Unsound further a (refusal.Cell k)
 
 -- none of the checks 1 to 7 fails
 pub record Sound (further : Option Refusal) (a : Asked) : Type 0 where
   pub passed : early-refusal further a ≡ none
-  pub legal : AllLegal (a .rates) (a .distortions)
+  pub legal : AllLegal (weigh-of a) (a .rates) (a .distortions)

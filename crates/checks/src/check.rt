@@ -1,4 +1,4 @@
-// The checks 1 to 7 of a planning call, in document 01's order; 5 and 7 by themselves, for an export too.
+// The checks 1 to 7 of a planning call, in document 01's order; what an export shares of 5 and 7 by itself.
 use crate::range::ranges;
 use crate::stage::Stage;
 use crate::stage::then;
@@ -13,9 +13,8 @@ use tables::refusal::Refusal;
 ghost use mathlib.Core.Path.{_≡_};
 ghost use mathlib.Core.Bool.{not, _||_};
 ghost use lib.Dec.{eqb, ltb};
-ghost use lib.ListN.{length};
 ghost use Rattle.checks.specs.Planning.{asking};
-ghost use Rattle.legal.specs.Judged.{Judged};
+ghost use Rattle.legal.specs.Judged.{«legality-refusal»};
 ghost use Rattle.checks.specs.Stages.{ended, CheckedAs};
 
 // 5: not both of this length.
@@ -28,6 +27,16 @@ pub fn wrong_lengths(cells: usize, rates: usize, distortions: usize) -> bool
     distortions != cells
 }
 
+// 5 of a planning call: the weights too.
+fn wrong_sizes(cells: usize, scans: usize, rates: usize, distortions: usize, weights: usize) -> bool
+    ensures { λ r. ⌜ r ≡ ((not (eqb rates cells) || not (eqb distortions cells)) || not (eqb weights scans)) ⌝ }
+{
+    if wrong_lengths(cells, rates, distortions) {
+        return true;
+    }
+    weights != scans
+}
+
 // 6: a buffer shorter than needed.
 fn too_short(scans: usize, need: usize, plan: usize, scratch: usize) -> bool
     ensures { λ r. ⌜ r ≡ (ltb plan scans || ltb scratch need) ⌝ }
@@ -38,12 +47,10 @@ fn too_short(scans: usize, need: usize, plan: usize, scratch: usize) -> bool
     scratch < need
 }
 
-// 7: the legality of every cell.
-pub fn check_cells(rates: &[u32], distortions: &[u32]) -> Stage
-    requires { ⌜ length (now distortions) ≡ length (now rates) ⌝ }
-    ensures { λ r. ⌜ Judged (now (rates .entry)) (now (distortions .entry)) (ended r) ⌝ }
+// 7: what the legality check says, as a stage.
+pub fn legality_stage(verdict: Legality) -> Stage
+    ensures { λ r. ⌜ ended r ≡ legality-refusal verdict ⌝ }
 {
-    let verdict = judge(rates, distortions);
     let Legality::Illegal(k) = verdict else {
         return Stage::Passed;
     };
@@ -58,10 +65,11 @@ pub fn check(
     further: Stage,
     rates: &[u32],
     distortions: &[u32],
+    weights: &[u8],
     plan: usize,
     scratch: usize,
 ) -> Stage
-    ensures { λ r. ⌜ CheckedAs (ended further) (asking scans settings law (now (rates .entry)) (now (distortions .entry)) plan scratch) (ended r) ⌝ }
+    ensures { λ r. ⌜ CheckedAs (ended further) (asking scans settings law (now (rates .entry)) (now (distortions .entry)) (now (weights .entry)) plan scratch) (ended r) ⌝ }
 {
     let ranged = ranges(MOST_SCANS, scans, settings, no_law(law));
     let Stage::Passed = ranged else {
@@ -72,7 +80,13 @@ pub fn check(
     };
     let cells = count(scans, settings) as usize;
     let fifth = unless(
-        wrong_lengths(cells, rates.len(), distortions.len()),
+        wrong_sizes(
+            cells,
+            scans as usize,
+            rates.len(),
+            distortions.len(),
+            weights.len(),
+        ),
         Refusal::Lengths,
     );
     let need = scratch_need(scans, settings) as usize;
@@ -84,5 +98,6 @@ pub fn check(
     let Stage::Passed = sixth else {
         return sixth;
     };
-    check_cells(rates, distortions)
+    let verdict = judge(rates, distortions, weights, settings as usize);
+    legality_stage(verdict)
 }

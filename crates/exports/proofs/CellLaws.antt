@@ -1,6 +1,6 @@
 -- The line of a cell, or none where it is forbidden. Assumes nothing.
 use mathlib.Core.Path.{_≡_, refl}
-use mathlib.Core.Logic.{_⊎_, ⊎-elim}
+use mathlib.Core.Logic.{_⊎_, inl, inr, ⊎-elim}
 use mathlib.Core.List.{[]}
 use Prim.Native.Nat.{ℕ, _≤_, _<_}
 use native.Mathlib.Decide.{ℕ-discrete}
@@ -24,10 +24,17 @@ its-line p rate distortion n = rw (ne-eqb rate forbidden n) refl
 pub seven-digits : {x r : ℕ} → (x ≤ most-cell) ⊎ (r ≡ forbidden) → (r ≡ forbidden → ⊥) → x < 10000000
 seven-digits h n = ⊎-elim (λ a. omega arith) (λ e. absurd (n e)) h
 
+-- a distortion that is legal beside its rate is in range as it stands
+pub plain-beside : {r d : ℕ} → LegalBeside 1 r d → (d ≤ most-cell) ⊎ (r ≡ forbidden)
+plain-beside = ⊎-elim (λ a. inl (a .0)) inr
+
 -- a line is short
-pub cell-short : (p : Place) (rate distortion : ℕ) → Placed p → LegalRate rate → LegalBeside rate distortion → length (cell-line p rate distortion) ≤ 28
+pub cell-short : (p : Place) (rate distortion : ℕ) → Placed p → LegalRate rate → LegalBeside 1 rate distortion →
+    length (cell-line p rate distortion) ≤ 28
 cell-short p rate distortion l r d = of (ℕ-discrete rate forbidden)
   where
     of : Dec (rate ≡ forbidden) → length (cell-line p rate distortion) ≤ 28
     of (yes e) = rw (no-line p rate distortion e) (omega arith)
-    of (no n) = rw (its-line p rate distortion n) (line-short p rate distortion (omega arith, (omega arith, (omega arith, (seven-digits r n, seven-digits d n)))))
+    of (no n) =
+        rw (its-line p rate distortion n)
+        (line-short p rate distortion (omega arith, (omega arith, (omega arith, (seven-digits r n, seven-digits (plain-beside d) n)))))

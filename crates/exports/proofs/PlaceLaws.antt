@@ -103,11 +103,11 @@ scan-inside N Q (suc i) p q h l = of (decLt (suc i) N)
     of (yes g) = g
     of (no g) = absurd (omega (arith, mul-le-mul-right {m = N - 1} {n = i} (Q * Q) (omega arith)))
 
-pub scan-of : {N Q c : ℕ} {p : Place} → 1 ≤ N → PlaceOf Q c p → c < cells N Q → p .scan < N
-scan-of {N} {Q} {c} {p} n a h = scan-inside N Q (p .scan) (p .previous) (p .setting) n (rw (a .is) h)
+pub scan-below : {N Q c : ℕ} {p : Place} → 1 ≤ N → PlaceOf Q c p → c < cells N Q → p .scan < N
+scan-below {N} {Q} {c} {p} n a h = scan-inside N Q (p .scan) (p .previous) (p .setting) n (rw (a .is) h)
 
 -- its place is within the limits
 pub placed : {N Q c : ℕ} {rates distortions : List ℕ} {p : Place} → Exportable N Q rates distortions → PlaceOf Q c p → c < cells N Q → Placed p
 placed {p = p} x a h =
-    let i = scan-of (x .some-scans) a h in
+    let i = scan-below (x .some-scans) a h in
     (omega (arith, x .scans), (omega (arith, x .settings, a .previous), omega (arith, x .settings, a .setting)))

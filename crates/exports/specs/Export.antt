@@ -11,7 +11,7 @@ use Rattle.tables.specs.declared.refusal.Refusal.the-variants as refusal
 use Rattle.tables.specs.Refusals.{Reply, refused, answered}
 use Rattle.tables.specs.Limits.{most-scans, most-settings, forbidden}
 use Rattle.tables.specs.Tables.{cells, cell}
-use Rattle.tables.specs.Legal.{AllLegal, cell-illegal}
+use Rattle.tables.specs.Legal.{AllLegal, cell-illegal, no-weights}
 use Rattle.checks.specs.Checks.{when, found, first-from, first-refusal, or-answer}
 use Rattle.checks.specs.Planning.{scans-out, settings-out, lengths-out}
 use Rattle.exports.specs.declared.place.Place.{Place}
@@ -79,7 +79,7 @@ export-text N Q rates distortions = export-from Q rates distortions (cells N Q) 
 abbrev pub early-checks : (N Q : ℕ) (rates distortions : List ℕ) → List (Option Refusal)
 early-checks N Q rates distortions =
     when (scans-out N) refusal.Scans ∷ when (settings-out Q) refusal.Settings ∷ when (lengths-out N Q rates distortions) refusal.Lengths
-    ∷ found refusal.Cell (first-from (cell-illegal rates distortions) 0 (length rates)) ∷ []
+    ∷ found refusal.Cell (first-from (cell-illegal no-weights rates distortions) 0 (length rates)) ∷ []
 
 -- tables that passed 1, 2, 5 and 7
 pub record Exportable (N Q : ℕ) (rates distortions : List ℕ) : Type 0 where
@@ -89,7 +89,7 @@ pub record Exportable (N Q : ℕ) (rates distortions : List ℕ) : Type 0 where
   pub settings : Q ≤ most-settings
   pub rates-long : length rates ≡ cells N Q
   pub distortions-long : length distortions ≡ cells N Q
-  pub legal : AllLegal rates distortions
+  pub legal : AllLegal no-weights rates distortions
 
 -- "On export 1, 2, 5, 7, then 6 for a text buffer too short."
 abbrev pub export-checks : (N Q : ℕ) (rates distortions : List ℕ) (room : ℕ) → List (Option Refusal)

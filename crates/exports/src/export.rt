@@ -4,11 +4,12 @@ use crate::line::put_line;
 use crate::place::Place;
 use crate::place::next;
 use bytes::cast::cell_to_number;
-use checks::check::check_cells;
+use checks::check::legality_stage;
 use checks::check::wrong_lengths;
 use checks::range::ranges;
 use checks::stage::Stage;
 use checks::stage::unless;
+use legal::judge_plain;
 use tables::cells::count;
 use tables::limits::FORBIDDEN;
 use tables::limits::MOST_SCANS;
@@ -46,12 +47,12 @@ fn early(scans: u64, settings: u64, rates: &[u32], distortions: &[u32]) -> Stage
     let Stage::Passed = fifth else {
         return fifth;
     };
-    check_cells(rates, distortions)
+    legality_stage(judge_plain(rates, distortions))
 }
 
 // The bytes of the line of a cell: none where it is forbidden.
 fn cell_length(p: Place, rate: u32, distortion: u32) -> usize
-    requires { ⌜ Placed p × (LegalRate rate × LegalBeside rate distortion) ⌝ }
+    requires { ⌜ Placed p × (LegalRate rate × LegalBeside 1 rate distortion) ⌝ }
     ensures { λ r. ⌜ (r ≡ length (cell-line p rate distortion)) × (r ≤ 28) ⌝ }
 {
     if rate == FORBIDDEN {
@@ -80,7 +81,7 @@ fn measure(scans: u64, settings: u64, rates: &[u32], distortions: &[u32]) -> usi
 
 // The line of a cell, from `at` on; the place after it.
 fn put_cell(text: &mut [u8], at: usize, p: Place, rate: u32, distortion: u32) -> usize
-    requires { ⌜ Placed p × (LegalRate rate × LegalBeside rate distortion) ⌝ }
+    requires { ⌜ Placed p × (LegalRate rate × LegalBeside 1 rate distortion) ⌝ }
     requires { ⌜ at + length (cell-line p rate distortion) ≤ length (now text) ⌝ }
     ensures { λ r. ⌜ (r ≡ at + length (cell-line p rate distortion)) × (now (text .exit) ≡ sets (now (text .entry)) at (cell-line p rate distortion)) ⌝ }
 {

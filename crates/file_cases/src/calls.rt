@@ -41,7 +41,7 @@ fn read(file: &mut [u8], lent: &mut [u8]) {
 }
 
 fn told(f: &[u64]) -> Fields
-    requires { ⌜ length (now f) ≡ 11 ⌝ }
+    requires { ⌜ length (now f) ≡ 12 ⌝ }
 {
     Fields {
         scans: f[0],
@@ -55,6 +55,7 @@ fn told(f: &[u64]) -> Fields
         distortion: Dist(f[8]),
         peak: f[9],
         floor: Dist(f[10]),
+        weighted: f[11],
     }
 }
 
@@ -65,7 +66,7 @@ fn wanted(told: Fields, settings: &[u8], lent: &mut [u8]) {
 }
 
 fn write(given: &mut [u8], kept: &mut [u64], lent: &mut [u8])
-    requires { ⌜ length (now kept) ≡ 11 ⌝ }
+    requires { ⌜ length (now kept) ≡ 12 ⌝ }
 {
     fields(kept);
     runs(given);
@@ -76,7 +77,7 @@ fn write(given: &mut [u8], kept: &mut [u64], lent: &mut [u8])
 
 // One call; false where there is none.
 fn call(file: &mut [u8], given: &mut [u8], kept: &mut [u64], lent: &mut [u8]) -> bool
-    requires { ⌜ length (now kept) ≡ 11 ⌝ }
+    requires { ⌜ length (now kept) ≡ 12 ⌝ }
 {
     let which = byte();
     if which == 1 {
@@ -92,7 +93,7 @@ fn call(file: &mut [u8], given: &mut [u8], kept: &mut [u64], lent: &mut [u8]) ->
 
 // A proved loop has to end, and nothing says that the input does. So it counts down from a number that no run uses up.
 pub fn every_call(file: &mut [u8], given: &mut [u8], kept: &mut [u64], lent: &mut [u8])
-    requires { ⌜ length (now kept) ≡ 11 ⌝ }
+    requires { ⌜ length (now kept) ≡ 12 ⌝ }
 {
     let mut turns = u64::MAX;
     while turns > 0 && call(file, given, kept, lent) {

@@ -5,6 +5,7 @@ use rules::Fields;
 use shown::number::put;
 use shown::number::put_refusal;
 
+// The fields that every version has; the mark of weights goes behind the version.
 fn put_fields(f: Fields) {
     put(f.scans);
     put(f.settings);
@@ -25,9 +26,11 @@ fn put_fields(f: Fields) {
 pub fn put_read(answer: ReadAnswer) {
     match answer {
         ReadAnswer::Read(p) => {
+            let fields = p.fields;
             put(0);
-            put_fields(p.fields);
+            put_fields(fields);
             put(p.version);
+            put(fields.weighted);
         }
         ReadAnswer::Refused(r) => put_refusal(r),
     }

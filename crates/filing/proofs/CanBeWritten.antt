@@ -16,13 +16,14 @@ use Rattle.tables.specs.declared.refusal.Refusal.the-variants as refusal
 use Rattle.tables.specs.Limits.{most-scans, most-settings, most-term, most-total, most-cell}
 use Rattle.tables.specs.Refusals.{Reply}
 use Rattle.rules.proofs.FieldLaws.{RulesHold, rules-pass}
-use Rattle.tables.specs.Tables.{series}
+use Rattle.tables.specs.Tables.{distortion-at, series}
 use Rattle.tables.specs.Law.{Tests}
 use Rattle.checks.specs.Planning.{Asked, Sound, asking, table-of, problem-of, scans-out, settings-out}
 use Rattle.checks.specs.Checks.{when}
 use Rattle.tables.proofs.RefusalLaws.{answered-or-refused}
 use Rattle.tables.proofs.SeriesLaws.{kept-below}
 use Rattle.tables.proofs.Bounds.{average-in-limits}
+use Rattle.tables.proofs.OneLaws.{total-ones}
 use Rattle.tables.proofs.LawLaws.{tested?, allows-law}
 use Rattle.checks.specs.Fit.{Fit}
 use Rattle.checks.proofs.FitLaws.{fit-legal}
@@ -41,9 +42,11 @@ use Rattle.planfile.specs.Writing.{no-faults, write-refusal-under, write-refusa
 use Rattle.checks.proofs.CheckLaws.{else-nothing, none-first}
 use Rattle.blocks.specs.Letters.{qpl2}
 use Rattle.blocks.proofs.LetterLaws.{qpl2-known}
+use Rattle.blocks.proofs.HeaderLaws.{held-in-qpl2}
 use Rattle.planfile.proofs.Back.{version-back, settings-back-under, fields-back-under, read-back-under, settings-back, fields-back, read-back}
-use Rattle.filing.specs.Filing.{average-fields, minmax-fields, ReadsBackUnder, ReadsBack}
+use Rattle.filing.specs.Filing.{mark-of, average-fields, minmax-fields, ReadsBackUnder, ReadsBack}
 use Rattle.checks.proofs.RangeLaws.{passes-range}
+use Rattle.filing.proofs.MarkLaws.{mark-zero, mark-kept}
 use Rattle.filing.proofs.KeptLaws.{n-kept, d-kept, no-n-kept, no-d-kept, rate-kept, peak-kept, floor-at-most, largest-at-most, steps-kept}
 
 -- where every rule is kept, the writer refuses for want of room alone
@@ -61,7 +64,7 @@ only-room lawless test f settings room k h g =
 
 module _ {a : Asked} (o : Sound none a) where
   -- what a call that passed the checks has
-  fit : Fit (a .N) (a .Q) (a .rates) (a .distortions) (a .scratch)
+  fit : Fit (a .N) (a .Q) (a .rates) (a .distortions) (a .weights) (a .scratch)
   fit = sound-fit o
 
   -- N is in its range
@@ -98,9 +101,14 @@ module _ {a : Asked} (o : Sound none a) (s : List ℕ) (ok : problem-of a .allow
   peak-limit : problem-of a .peak s ≤ most-cell
   peak-limit = peak-fits (a .law) (fit o) s ok
 
-  -- the peak is at most the distortion
-  peak-below : problem-of a .peak s ≤ problem-of a .distortion s
-  peak-below = largest-at-most (series (table-of a) .distortion) 0 0 s
+  -- where every weight is 1, the peak is at most the distortion
+  peak-below : mark-of (a .weights) ≡ 0 → problem-of a .peak s ≤ problem-of a .distortion s
+  peak-below e =
+      omega (
+        arith,
+        largest-at-most (distortion-at (table-of a)) 0 0 s,
+        total-ones (table-of a) (mark-zero (a .weights) e) 0 0 s (omega (arith, ok .0, fit o .weights-long)),
+      )
 
 module _ {a : Asked} {test : ℕ → ℕ → Bool} (tests : Tests test (a .law)) (o : Sound none a) {B : ℕ} {s v : List ℕ} (q : IsAveragePlan (problem-of a) B s v) where
   -- n and d are within the limits
@@ -109,7 +117,7 @@ module _ {a : Asked} {test : ℕ → ℕ → Bool} (tests : Tests test (a .law))
 
   -- the fields of a plan with these values keep their rules
   average-rules : (number : ℕ) (m : AveragePlan) → m .n ∷ m .d ∷ m .totals .rate .0 ∷ m .totals .distortion .0 ∷ m .totals .peak ∷ m .floor .0 ∷ [] ≡ v →
-      RulesHold (a .lawless) no-faults (average-fields (a .N) (a .Q) number B m)
+      RulesHold (a .lawless) no-faults (average-fields (a .N) (a .Q) number B (a .weights) m)
   average-rules number m e =
       let ok = q .plan .plan .one in
       let z = e ∙ q .values in
@@ -126,12 +134,13 @@ module _ {a : Asked} {test : ℕ → ℕ → Bool} (tests : Tests test (a .law))
         settings = count-kept o;
         law = sound-law o;
         kind = refl;
-        run-13 = refl;
+        weighted = mark-kept (a .weights);
+        run-14 = refl;
         n = rw (en, ed) (n-kept (q .n) (q .d) (b .0) (b .2) (q .plan .lowest));
         d = rw ed (d-kept (q .d) (b .1) (b .2));
         rate = rw er (rate-kept (problem-of a .rate s) B (rate-limit o s ok) (q .plan .fits));
         distortion = rw eD (le-ltb most-total (problem-of a .distortion s) (distortion-limit o s ok));
-        peak = rw (ep, eD) (peak-kept (problem-of a .peak s) (problem-of a .distortion s) (peak-limit o s ok) (peak-below o s ok));
+        peak = rw (ep, eD) (peak-kept (mark-of (a .weights)) (problem-of a .peak s) (problem-of a .distortion s) (peak-limit o s ok) (peak-below o s ok));
         floor = rw (ef, eD) (le-ltb (problem-of a .distortion s) (q .floor)
             (floor-at-most (problem-of a) B (q .n) (q .d) (q .floor) s (q .proves) (q .plan .fits)));
         run-48 = refl;
@@ -140,7 +149,7 @@ module _ {a : Asked} {test : ℕ → ℕ → Bool} (tests : Tests test (a .law))
 module _ {a : Asked} (o : Sound none a) {B : ℕ} {s v : List ℕ} (q : IsMinmaxPlan (problem-of a) B s v) where
   -- the fields of a plan with these values keep their rules
   minmax-rules : (number : ℕ) (m : MinmaxPlan) → m .ceiling ∷ m .totals .rate .0 ∷ m .totals .distortion .0 ∷ m .totals .peak ∷ [] ≡ v →
-      RulesHold (a .lawless) no-faults (minmax-fields (a .N) (a .Q) number B m)
+      RulesHold (a .lawless) no-faults (minmax-fields (a .N) (a .Q) number B (a .weights) m)
   minmax-rules number m e =
       let ok = q .plan .plan .one .0 in
       let z = e ∙ q .values in
@@ -153,12 +162,13 @@ module _ {a : Asked} (o : Sound none a) {B : ℕ} {s v : List ℕ} (q : IsMinmax
         settings = count-kept o;
         law = sound-law o;
         kind = refl;
-        run-13 = refl;
+        weighted = mark-kept (a .weights);
+        run-14 = refl;
         n = no-n-kept _;
         d = no-d-kept;
         rate = rw er (rate-kept (problem-of a .rate s) B (rate-limit o s ok) (minmax-fits (problem-of a) (q .plan)));
         distortion = rw eD (le-ltb most-total (problem-of a .distortion s) (distortion-limit o s ok));
-        peak = rw (ep, eD) (peak-kept (problem-of a .peak s) (problem-of a .distortion s) (peak-limit o s ok) (peak-below o s ok));
+        peak = rw (ep, eD) (peak-kept (mark-of (a .weights)) (problem-of a .peak s) (problem-of a .distortion s) (peak-limit o s ok) (peak-below o s ok));
         floor = refl;
         run-48 = refl;
       }
@@ -184,7 +194,7 @@ reads-back-under lawless test f settings room w b h = record {
   fields = fields-back-under lawless test f settings room w qpl2 qpl2-known b h;
   settings-read = settings-back-under lawless test f settings room w qpl2 qpl2-known;
   unrefused = λ r g.
-      read-back-under lawless test f settings room w qpl2 qpl2-known b h r ∙ ap (λ (t : Bool). when t refusal.Buffer) (le-ltb r (f .scans) g);
+      read-back-under lawless test f settings room w qpl2 qpl2-known b h (held-in-qpl2 f) r ∙ ap (λ (t : Bool). when t refusal.Buffer) (le-ltb r (f .scans) g);
 }
 
 -- .. with the law by its number
@@ -194,78 +204,78 @@ reads-back f settings room w h = record {
   fields = fields-back f settings room w qpl2 qpl2-known h;
   settings-read = settings-back f settings room w qpl2 qpl2-known;
   unrefused = λ r g.
-      read-back f settings room w qpl2 qpl2-known h r ∙ ap (λ (t : Bool). when t refusal.Buffer) (le-ltb r (f .scans) g);
+      read-back f settings room w qpl2 qpl2-known h (held-in-qpl2 f) r ∙ ap (λ (t : Bool). when t refusal.Buffer) (le-ltb r (f .scans) g);
 }
 
 -- Under any law that has a test, whatever number stands for it in the file.
 module _ {a : Asked} {test : ℕ → ℕ → Bool} (tests : Tests test (a .law)) (number : ℕ) {B : ℕ} {plan scratch plan′ scratch′ : List ℕ} where
   -- an average plan that is given is refused by the writer only for want of room
   pub average-written-under : (room : ℕ) (m : AveragePlan) → AveragePromise a B plan scratch (average-answer.Planned m) plan′ scratch′ →
-      write-refusal-under (a .lawless) test (average-fields (a .N) (a .Q) number B m) plan′ room ≡ when (ltb room (file-length (a .N))) refusal.Buffer
+      write-refusal-under (a .lawless) test (average-fields (a .N) (a .Q) number B (a .weights) m) plan′ room ≡ when (ltb room (file-length (a .N))) refusal.Buffer
   average-written-under room m (unsound {r = r} u e f g) = absurd (answered-or-refused r e)
   average-written-under room m (no-sequence o n e f g) = absurd (answered-or-refused refusal.NoSequence e)
   average-written-under room m (none-within o n e f g) = absurd (answered-or-refused refusal.NoneWithin e)
   average-written-under room m (planned o s v q e f g) =
-      rw f (handed-written tests o s (q .plan .plan .one) (average-fields (a .N) (a .Q) number B m) refl refl
+      rw f (handed-written tests o s (q .plan .plan .one) (average-fields (a .N) (a .Q) number B (a .weights) m) refl refl
       (average-rules tests o q number m (ap (λ (x : Reply). x .values) e)) (drop (a .N) plan) room)
 
   -- and so is a minmax plan
   pub minmax-written-under : (room : ℕ) (m : MinmaxPlan) → MinmaxPromise a B plan scratch (minmax-answer.Planned m) plan′ scratch′ →
-      write-refusal-under (a .lawless) test (minmax-fields (a .N) (a .Q) number B m) plan′ room ≡ when (ltb room (file-length (a .N))) refusal.Buffer
+      write-refusal-under (a .lawless) test (minmax-fields (a .N) (a .Q) number B (a .weights) m) plan′ room ≡ when (ltb room (file-length (a .N))) refusal.Buffer
   minmax-written-under room m (unsound {r = r} u e f g) = absurd (answered-or-refused r e)
   minmax-written-under room m (no-sequence o n e f g) = absurd (answered-or-refused refusal.NoSequence e)
   minmax-written-under room m (none-within o n e f g) = absurd (answered-or-refused refusal.NoneWithin e)
   minmax-written-under room m (planned o s v q e f g) =
-      rw f (handed-written tests o s (q .plan .plan .one .0) (minmax-fields (a .N) (a .Q) number B m) refl refl
+      rw f (handed-written tests o s (q .plan .plan .one .0) (minmax-fields (a .N) (a .Q) number B (a .weights) m) refl refl
       (minmax-rules o q number m (ap (λ (x : Reply). x .values) e)) (drop (a .N) plan) room)
 
   -- the file of an average plan that is given reads back, where the number fits its byte
   pub average-read-back-under : (m : AveragePlan) → AveragePromise a B plan scratch (average-answer.Planned m) plan′ scratch′ → number < 256 → B < 2 ^ 64 →
-      ReadsBackUnder (a .lawless) test (average-fields (a .N) (a .Q) number B m) plan′
+      ReadsBackUnder (a .lawless) test (average-fields (a .N) (a .Q) number B (a .weights) m) plan′
   average-read-back-under m p b h =
       let room : ℕ = file-length (a .N) in
-      reads-back-under (a .lawless) test (average-fields (a .N) (a .Q) number B m) plan′ room
+      reads-back-under (a .lawless) test (average-fields (a .N) (a .Q) number B (a .weights) m) plan′ room
       (room-enough _ room (a .N) (average-written-under room m p) (le-refl room)) b h
 
   -- and so does that of a minmax plan
   pub minmax-read-back-under : (m : MinmaxPlan) → MinmaxPromise a B plan scratch (minmax-answer.Planned m) plan′ scratch′ → number < 256 → B < 2 ^ 64 →
-      ReadsBackUnder (a .lawless) test (minmax-fields (a .N) (a .Q) number B m) plan′
+      ReadsBackUnder (a .lawless) test (minmax-fields (a .N) (a .Q) number B (a .weights) m) plan′
   minmax-read-back-under m p b h =
       let room : ℕ = file-length (a .N) in
-      reads-back-under (a .lawless) test (minmax-fields (a .N) (a .Q) number B m) plan′ room
+      reads-back-under (a .lawless) test (minmax-fields (a .N) (a .Q) number B (a .weights) m) plan′ room
       (room-enough _ room (a .N) (minmax-written-under room m p) (le-refl room)) b h
 
 -- And so under every law by its number, which stands in the file.
-module _ (N Q law : ℕ) (rates distortions : List ℕ) (plan-room scratch-room : ℕ) where
+module _ (N Q law : ℕ) (rates distortions weights : List ℕ) (plan-room scratch-room : ℕ) where
   -- the call
   abbrev call : Asked
-  call = asking N Q law rates distortions plan-room scratch-room
+  call = asking N Q law rates distortions weights plan-room scratch-room
 
   module _ {B : ℕ} {plan scratch plan′ scratch′ : List ℕ} where
     pub average-written : (room : ℕ) (m : AveragePlan) → AveragePromise call B plan scratch (average-answer.Planned m) plan′ scratch′ →
-        write-refusal (average-fields N Q law B m) plan′ room ≡ when (ltb room (file-length N)) refusal.Buffer
+        write-refusal (average-fields N Q law B weights m) plan′ room ≡ when (ltb room (file-length N)) refusal.Buffer
     average-written = average-written-under {a = call} (allows-law law) law
 
     pub minmax-written : (room : ℕ) (m : MinmaxPlan) → MinmaxPromise call B plan scratch (minmax-answer.Planned m) plan′ scratch′ →
-        write-refusal (minmax-fields N Q law B m) plan′ room ≡ when (ltb room (file-length N)) refusal.Buffer
+        write-refusal (minmax-fields N Q law B weights m) plan′ room ≡ when (ltb room (file-length N)) refusal.Buffer
     minmax-written = minmax-written-under {a = call} (allows-law law) law
 
     -- where there is room for the file, the writer refuses no average plan that is given
     pub average-accepted : (room : ℕ) (m : AveragePlan) → AveragePromise call B plan scratch (average-answer.Planned m) plan′ scratch′ →
-        file-length N ≤ room → write-refusal (average-fields N Q law B m) plan′ room ≡ none
+        file-length N ≤ room → write-refusal (average-fields N Q law B weights m) plan′ room ≡ none
     average-accepted room m p h = room-enough _ room N (average-written room m p) h
 
     -- and no minmax plan
     pub minmax-accepted : (room : ℕ) (m : MinmaxPlan) → MinmaxPromise call B plan scratch (minmax-answer.Planned m) plan′ scratch′ →
-        file-length N ≤ room → write-refusal (minmax-fields N Q law B m) plan′ room ≡ none
+        file-length N ≤ room → write-refusal (minmax-fields N Q law B weights m) plan′ room ≡ none
     minmax-accepted room m p h = room-enough _ room N (minmax-written room m p) h
 
     -- the file of an average plan that is given reads back
     pub average-read-back : (m : AveragePlan) → AveragePromise call B plan scratch (average-answer.Planned m) plan′ scratch′ → B < 2 ^ 64 →
-        ReadsBack (average-fields N Q law B m) plan′
+        ReadsBack (average-fields N Q law B weights m) plan′
     average-read-back m p h = reads-back _ plan′ (file-length N) (average-accepted (file-length N) m p (le-refl (file-length N))) h
 
     -- and so does that of a minmax plan
     pub minmax-read-back : (m : MinmaxPlan) → MinmaxPromise call B plan scratch (minmax-answer.Planned m) plan′ scratch′ → B < 2 ^ 64 →
-        ReadsBack (minmax-fields N Q law B m) plan′
+        ReadsBack (minmax-fields N Q law B weights m) plan′
     minmax-read-back m p h = reads-back _ plan′ (file-length N) (minmax-accepted (file-length N) m p (le-refl (file-length N))) h

@@ -1,13 +1,13 @@
 -- Fields that keep their rules: each field of a plan that is given; and an allowed sequence keeps the law, step by step. Assumes nothing.
 use mathlib.Core.Path.{_≡_, refl}
-use mathlib.Core.Bool.{Bool, true, false, cond}
+use mathlib.Core.Bool.{Bool, true, false, _&&_, cond}
 use mathlib.Core.List.{List, [], _∷_}
 use Prim.Native.Nat.{ℕ, zero, suc, _-_, _≤_, _<_}
 use native.Mathlib.Nat.{mul-le-mul-left}
 use native.Mathlib.Omega.{arith}
-use lib.Dec.{eqb}
+use lib.Dec.{eqb, ltb}
 use lib.ListN.{length, getD}
-use borrow.Author.Tests.{le-ltb, eq-eqb}
+use borrow.Author.Tests.{le-ltb, eq-eqb, eqb-true}
 use Rattle.criteria.specs.Choice.{Problem, AverageFloor}
 use Rattle.criteria.specs.Fraction.{gcd, Lowest}
 use Rattle.criteria.proofs.Fraction.{gcd-is}
@@ -51,9 +51,13 @@ no-d-kept = refl
 pub rate-kept : (rate B : ℕ) → rate ≤ most-total → rate ≤ B → rate-broken rate B ≡ false
 rate-kept rate B h g = rw (le-ltb most-total rate h, le-ltb B rate g) refl
 
--- a peak within the limit and the distortion
-pub peak-kept : (peak distortion : ℕ) → peak ≤ most-cell → peak ≤ distortion → peak-broken peak distortion ≡ false
-peak-kept peak distortion h g = rw (le-ltb most-cell peak h, le-ltb distortion peak g) refl
+-- a peak within the limit, and within the distortion where the mark is 0
+pub peak-kept : (weighted peak distortion : ℕ) → peak ≤ most-cell → (weighted ≡ 0 → peak ≤ distortion) → peak-broken weighted peak distortion ≡ false
+peak-kept weighted peak distortion h g = rw (le-ltb most-cell peak h) (of (eqb weighted 0) refl)
+  where
+    of : (b : Bool) → eqb weighted 0 ≡ b → (b && ltb distortion peak) ≡ false
+    of true e = le-ltb distortion peak (g (eqb-true weighted 0 e))
+    of false e = refl
 
 -- the floor that a plan within its budget proves is at most the plan's distortion
 pub floor-at-most : (P : Problem) (B n d F : ℕ) (s : List ℕ) → AverageFloor P B n d s F → P .rate s ≤ B → F ≤ P .distortion s

@@ -1,3 +1,4 @@
 -- Every average and every minmax plan that is given can be written, and reads back.
+pub mod MarkLaws
 pub mod KeptLaws
 pub mod CanBeWritten

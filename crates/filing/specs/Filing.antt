@@ -1,10 +1,12 @@
 -- The fields of a plan's file, and what is read from it. Assumes nothing.
 use mathlib.Core.Path.{_≡_}
-use mathlib.Core.Bool.{Bool}
+use mathlib.Core.Logic.{_≢_}
+use mathlib.Core.Bool.{Bool, cond}
 use mathlib.Core.Option.{none}
-use mathlib.Core.List.{List}
-use Prim.Native.Nat.{ℕ, _≤_}
-use lib.ListN.{take}
+use mathlib.Core.List.{List, [], _∷_}
+use Prim.Native.Nat.{ℕ, _≤_, _<_}
+use lib.Dec.{eqb}
+use lib.ListN.{length, getD, take}
 use Rattle.tables.specs.Law.{allows, law-out}
 use Rattle.promise.specs.declared.AveragePlan.{AveragePlan}
 use Rattle.promise.specs.declared.MinmaxPlan.{MinmaxPlan}
@@ -13,9 +15,18 @@ use Rattle.blocks.specs.Letters.{qpl2, version-of}
 use Rattle.blocks.specs.File.{file-of, entry-at}
 use Rattle.planfile.specs.Reading.{fields-of, read-refusal-under, entries}
 
--- "kind, 0 average": N, Q, law and B of the call, and what the plan holds
-abbrev pub average-fields : (N Q law B : ℕ) → AveragePlan → Fields
-average-fields N Q law B m = record {
+-- document 02, [5]: byte 13 "is 1 when any weight differs from 1"
+abbrev pub mark-of : List ℕ → ℕ
+mark-of [] = 0
+mark-of (w ∷ weights) = cond (eqb w 1) (mark-of weights) 1
+
+-- some weight differs from 1
+abbrev pub SomeOther : List ℕ → Type 0
+SomeOther weights = (i : ℕ) × (i < length weights) × (getD weights i 0 ≢ 1)
+
+-- "kind, 0 average": N, Q, law, B and the weights of the call, and what the plan holds
+abbrev pub average-fields : (N Q law B : ℕ) (weights : List ℕ) → AveragePlan → Fields
+average-fields N Q law B weights m = record {
   scans = N;
   settings = Q;
   law = law;
@@ -27,11 +38,12 @@ average-fields N Q law B m = record {
   distortion = m .totals .distortion;
   peak = m .totals .peak;
   floor = m .floor;
+  weighted = mark-of weights;
 }
 
 -- "1 minmax"; "Kind 1: n, d and floor are 0."
-abbrev pub minmax-fields : (N Q law B : ℕ) → MinmaxPlan → Fields
-minmax-fields N Q law B m = record {
+abbrev pub minmax-fields : (N Q law B : ℕ) (weights : List ℕ) → MinmaxPlan → Fields
+minmax-fields N Q law B weights m = record {
   scans = N;
   settings = Q;
   law = law;
@@ -43,6 +55,7 @@ minmax-fields N Q law B m = record {
   distortion = m .totals .distortion;
   peak = m .totals .peak;
   floor = record { 0 = 0 };
+  weighted = mark-of weights;
 }
 
 -- what is read from the file that is written of these fields and settings: that it is QPL2, the fields, the first N settings, and no refusal

@@ -1,5 +1,6 @@
-// The average and the minmax plans of tables T and U under law 0, and of table V under laws 0 to 3, at some budgets, filed: each line is the number that comes
-// back from the planning call (0: a plan), and for a plan the length of its file and every byte of the buffer that the file was written to.
+// The average and the minmax plans of tables T and U under law 0, and of table V under laws 0 to 3, at some budgets, all weights 1, and of
+// table T under law 1 with four other pairs of weights and with 1 1, filed: each line is the number that comes back from the planning call (0: a plan), and for a plan the
+// length of its file and every byte of the buffer that the file was written to.
 // What it must write was made by tests/second/filing_vectors.py.
 use filing::average_fields;
 use filing::minmax_fields;
@@ -40,7 +41,15 @@ fn put_filed(fields: Fields, plan: &[u8]) {
     end_line();
 }
 
-fn average(scans: u64, settings: u64, law: u64, budget: u64, rates: &[u32], distortions: &[u32]) {
+fn average(
+    scans: u64,
+    settings: u64,
+    law: u64,
+    budget: u64,
+    rates: &[u32],
+    distortions: &[u32],
+    weights: &[u8],
+) {
     let mut plan = [0u8; 2];
     let mut scratch = [0u8; 8];
     let answer = average_plan(
@@ -50,12 +59,13 @@ fn average(scans: u64, settings: u64, law: u64, budget: u64, rates: &[u32], dist
         budget,
         rates,
         distortions,
+        weights,
         &mut plan,
         &mut scratch,
     );
     match answer {
         AverageAnswer::Planned(m) => put_filed(
-            average_fields(scans, settings, law, budget, m),
+            average_fields(scans, settings, law, budget, weights, m),
             &plan,
         ),
         AverageAnswer::Refused(r) => {
@@ -65,7 +75,15 @@ fn average(scans: u64, settings: u64, law: u64, budget: u64, rates: &[u32], dist
     }
 }
 
-fn minmax(scans: u64, settings: u64, law: u64, budget: u64, rates: &[u32], distortions: &[u32]) {
+fn minmax(
+    scans: u64,
+    settings: u64,
+    law: u64,
+    budget: u64,
+    rates: &[u32],
+    distortions: &[u32],
+    weights: &[u8],
+) {
     let mut plan = [0u8; 2];
     let mut scratch = [0u8; 8];
     let answer = minmax_plan(
@@ -75,12 +93,13 @@ fn minmax(scans: u64, settings: u64, law: u64, budget: u64, rates: &[u32], disto
         budget,
         rates,
         distortions,
+        weights,
         &mut plan,
         &mut scratch,
     );
     match answer {
         MinmaxAnswer::Planned(m) => put_filed(
-            minmax_fields(scans, settings, law, budget, m),
+            minmax_fields(scans, settings, law, budget, weights, m),
             &plan,
         ),
         MinmaxAnswer::Refused(r) => {
@@ -90,21 +109,31 @@ fn minmax(scans: u64, settings: u64, law: u64, budget: u64, rates: &[u32], disto
     }
 }
 
-fn both(scans: u64, settings: u64, law: u64, budget: u64, rates: &[u32], distortions: &[u32]) {
-    average(scans, settings, law, budget, rates, distortions);
-    minmax(scans, settings, law, budget, rates, distortions);
+fn both(
+    scans: u64,
+    settings: u64,
+    law: u64,
+    budget: u64,
+    rates: &[u32],
+    distortions: &[u32],
+    weights: &[u8],
+) {
+    average(scans, settings, law, budget, rates, distortions, weights);
+    minmax(scans, settings, law, budget, rates, distortions, weights);
 }
 
-fn table_t(budget: u64) {
+fn table_t(law: u64, budget: u64, first: u8, second: u8) {
     let rates = [10u32, 4, 8, 3, 9, 5];
     let distortions = [2u32, 7, 3, 6, 4, 10];
-    both(2, 2, 0, budget, &rates, &distortions);
+    let weights = [first, second];
+    both(2, 2, law, budget, &rates, &distortions, &weights);
 }
 
 fn table_u(budget: u64) {
     let rates = [9u32, 6, 2];
     let distortions = [0u32, 8, 10];
-    both(1, 3, 0, budget, &rates, &distortions);
+    let weights = [1u8; 1];
+    both(1, 3, 0, budget, &rates, &distortions, &weights);
 }
 
 fn table_v(law: u64, budget: u64) {
@@ -152,16 +181,17 @@ fn table_v(law: u64, budget: u64) {
         3,
         3,
     ];
-    both(2, 4, law, budget, &rates, &distortions);
+    let weights = [1u8; 2];
+    both(2, 4, law, budget, &rates, &distortions, &weights);
 }
 
 fn main() {
-    table_t(8);
-    table_t(9);
-    table_t(12);
-    table_t(13);
-    table_t(17);
-    table_t(18);
+    table_t(0, 8, 1, 1);
+    table_t(0, 9, 1, 1);
+    table_t(0, 12, 1, 1);
+    table_t(0, 13, 1, 1);
+    table_t(0, 17, 1, 1);
+    table_t(0, 18, 1, 1);
     table_u(1);
     table_u(7);
     table_u(9);
@@ -171,4 +201,11 @@ fn main() {
     table_v(2, 6);
     table_v(2, 7);
     table_v(3, 7);
+    table_t(1, 17, 2, 1);
+    table_t(1, 12, 2, 1);
+    table_t(1, 13, 0, 1);
+    table_t(1, 13, 1, 0);
+    table_t(1, 12, 1, 0);
+    table_t(1, 9, 0, 0);
+    table_t(1, 17, 1, 1);
 }

@@ -1,38 +1,31 @@
 -- A row of candidates: what a choice costs, and the least of a run. Assumes nothing.
 use mathlib.Core.Path.{_≡_}
-use mathlib.Core.Bool.{Bool, _||_, cond}
+use mathlib.Core.Bool.{cond}
 use mathlib.Core.List.{List}
 use Prim.Native.Nat.{ℕ, _+_, _*_, _≤_, _<_}
 use lib.Dec.{eqb, ltb}
 use lib.ListN.{getD}
-use Rattle.tables.specs.Limits.{forbidden}
-use Rattle.tables.specs.Legal.{LegalRate, LegalBeside}
+use Rattle.tables.specs.Limits.{most-cell, forbidden}
+use Rattle.tables.specs.Legal.{LegalRate}
 use Rattle.least.specs.declared.Rule.{Rule}
-use mathlib.Core.Bool.{Bool}
-use mathlib.Core.List.{List}
-use Prim.Native.Nat.{ℕ, _+_, _*_, _≤_, _<_}
 use Rattle.keys.specs.OneKey.{weight-bound}
 
 -- 2 ^ 62, which no sequence costs
 abbrev pub no-way : ℕ
 no-way = 4611686018427387904
 
--- a choice that is forbidden, or whose plain distortion cell is over the ceiling
-abbrev pub shut-by : (ceiling rate plain : ℕ) → Bool
-shut-by ceiling rate plain = eqb rate forbidden || ltb ceiling plain
-
--- what a choice costs, by the rule's weights: of its rate and of the distortion that counts
-unfoldable pub price-of : Rule → (rate plain counted : ℕ) → ℕ
-price-of rule rate plain counted = cond (shut-by (rule .ceiling) rate plain) no-way (rule .a * counted + rule .b * rate)
+-- what a choice costs, by the rule's weights, where its cells are closed: of its rate, and of the distortion that counts
+unfoldable pub price-of : Rule → (rate counted : ℕ) → ℕ
+price-of rule rate counted = cond (eqb rate forbidden) no-way (rule .a * counted + rule .b * rate)
 
 -- .. and with it what lies ahead of setting q
 abbrev pub candidate : Rule → (rates distortions keys : List ℕ) → ℕ → ℕ
-candidate rule rates distortions keys q = price-of rule (getD rates q 0) (getD distortions q 0) (getD distortions q 0) + getD keys q 0
+candidate rule rates distortions keys q = price-of rule (getD rates q 0) (getD distortions q 0) + getD keys q 0
 
--- the first k cells of a row are legal, and what lies ahead of each setting leaves room
+-- the first k rates of a row are legal, the distortions that count beside them are small, and what lies ahead of each setting leaves room
 abbrev pub Ready : ℕ → (rates distortions keys : List ℕ) → Type 0
 Ready k rates distortions keys =
-    (q : ℕ) → q < k → LegalRate (getD rates q 0) × LegalBeside (getD rates q 0) (getD distortions q 0) × (getD keys q 0 ≤ no-way)
+    (q : ℕ) → q < k → LegalRate (getD rates q 0) × (getD distortions q 0 ≤ most-cell) × (getD keys q 0 ≤ no-way)
 
 -- the later of two takes the place of the earlier where it is less
 abbrev pub Joins : (key first key′ first′ key″ first″ : ℕ) → Type 0

@@ -9,12 +9,13 @@ ghost use mathlib.Core.Bool.{cond};
 ghost use mathlib.Core.Path.{_≡_};
 ghost use Prim.Native.Nat.{ℕ, _+_, _≤_, _<_};
 ghost use lib.ListN.{getD, length};
-ghost use Rattle.least.specs.Row.{«shut-by», «price-of», candidate, Ready, Joins, RunOf, BestOf, Light};
+ghost use Rattle.least.specs.Row.{«price-of», candidate, Ready, Joins, RunOf, BestOf, Light};
 
 // No allowed sequence leads to the end: more than any sequence costs, and twice it still fits.
 pub const NO_WAY: u64 = 4611686018427387904;
 
-// What a pass asks of a choice: the weights of its distortion and its rate, and a ceiling over its distortion.
+// What a pass asks of a choice: the two weights of a key, of its distortion and of its rate, and a ceiling over its plain cell. The ceiling is
+// held where a scan's cells are copied, and a row of candidates knows closed cells only.
 pub struct Rule {
     pub a: u32,
     pub b: u32,
@@ -39,18 +40,11 @@ fn choose_first(wins: bool, a: usize, b: usize) -> usize
     if wins { a } else { b }
 }
 
-// A choice that is forbidden, or whose plain cell is over the ceiling.
-fn shut(rule: Rule, rate: u32, plain: u32) -> bool
-    ensures { λ r. ⌜ r ≡ shut-by (rule .ceiling) rate plain ⌝ }
-{
-    (rate == FORBIDDEN) | (rule.ceiling < plain)
-}
-
-// What a choice costs: the ceiling is held against the plain cell, and the cost takes the distortion that counts. Both arms are computed, so
-// that the loop over a row has no branch.
-fn price(rule: Rule, rate: u32, plain: u32, counted: u32) -> Amount
+// What a choice costs: its cells are closed, so that a shut choice has a forbidden rate, and the distortion is what counts. Both arms are
+// computed, so that the loop over a row has no branch.
+fn price(rule: Rule, rate: u32, counted: u32) -> Amount
     requires { ⌜ Light rule ⌝ }
-    ensures { λ r. ⌜ r .0 ≡ price-of rule rate plain counted ⌝ }
+    ensures { λ r. ⌜ r .0 ≡ price-of rule rate counted ⌝ }
 {
     let open = cost(
         Rate(cell_to_number(rate)),
@@ -58,27 +52,26 @@ fn price(rule: Rule, rate: u32, plain: u32, counted: u32) -> Amount
         cell_to_number(rule.b),
         cell_to_number(rule.a),
     );
-    Amount(choose(shut(rule, rate, plain), NO_WAY, open.0))
+    Amount(choose(rate == FORBIDDEN, NO_WAY, open.0))
 }
 
-// What each setting from lo up to hi costs from here to the end.
+// What each setting below hi costs from here to the end.
 fn sums<'a>(
     row: &mut [u64; 16],
     rates: &'a [u32; 16],
     distortions: &'a [u32; 16],
     rule: Rule,
     keys: &'a [u64; 16],
-    lo: usize,
     hi: usize,
 )
-    requires { ⌜ (lo ≤ hi) × (hi ≤ 16) ⌝ }
+    requires { ⌜ hi ≤ 16 ⌝ }
     requires { ⌜ Light rule ⌝ }
     requires { ⌜ Ready hi (now rates) (now distortions) (now keys) × (length (now row) ≡ 16) ⌝ }
     ensures { λ _. ⌜ length (now (row .exit)) ≡ 16 ⌝ }
-    ensures { λ _. ⌜ ((q : ℕ) → lo ≤ q → q < hi → getD (now (row .exit)) q 0 ≡ candidate rule (now (rates .entry)) (now (distortions .entry)) (now (keys .entry)) q) ⌝ }
+    ensures { λ _. ⌜ ((q : ℕ) → q < hi → getD (now (row .exit)) q 0 ≡ candidate rule (now (rates .entry)) (now (distortions .entry)) (now (keys .entry)) q) ⌝ }
 {
-    for q in lo..hi {
-        row[q] = price(rule, rates[q], distortions[q], distortions[q]).0 + keys[q];
+    for q in 0..hi {
+        row[q] = price(rule, rates[q], distortions[q]).0 + keys[q];
     }
 }
 
@@ -149,11 +142,7 @@ pub fn pick<'a>(
     ensures { λ r. ⌜ length (now (row .exit)) ≡ 16 ⌝ }
     ensures { λ r. ⌜ BestOf (candidate rule (now (rates .entry)) (now (distortions .entry)) (now (keys .entry))) lo hi (r .key .0) (r .first) ⌝ }
 {
-    // A run that starts at 0 is the common one: the compiler knows its start.
-    if lo == 0 {
-        sums(row, rates, distortions, rule, keys, 0, hi);
-        return least(row, 0, hi);
-    }
-    sums(row, rates, distortions, rule, keys, lo, hi);
+    // The settings below lo are priced with the others, for a loop that starts at 0 costs less than one that asks where to start.
+    sums(row, rates, distortions, rule, keys, hi);
     least(row, lo, hi)
 }

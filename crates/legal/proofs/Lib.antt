@@ -1,2 +1,3 @@
 pub mod LegalLaws
+pub mod CellTests
 pub mod RunLaws

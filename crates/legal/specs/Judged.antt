@@ -13,23 +13,23 @@ abbrev pub legality-refusal : Legality → Option Refusal
 legality-refusal Legal = none
 legality-refusal (Illegal k) = some (refusal.Cell k)
 
--- check 7 came out as this: every cell is legal, or this is the lowest that is not
-pub data Judged (rates distortions : List ℕ) : Option Refusal → Type 0 where
-  all-legal : AllLegal rates distortions → Judged rates distortions none
-  not-legal : {k : ℕ} → LowestIllegal rates distortions k → Judged rates distortions (some (refusal.Cell k))
+-- check 7 came out as this, where `weigh` gives the weight of each cell: every cell is legal, or this is the lowest that is not
+pub data Judged (weigh : ℕ → ℕ) (rates distortions : List ℕ) : Option Refusal → Type 0 where
+  all-legal : AllLegal weigh rates distortions → Judged weigh rates distortions none
+  not-legal : {k : ℕ} → LowestIllegal weigh rates distortions k → Judged weigh rates distortions (some (refusal.Cell k))
 
 -- the cells from one number up to another are legal
-abbrev pub LegalRun : (rates distortions : List ℕ) (from to : ℕ) → Type 0
-LegalRun rates distortions from to = (k : ℕ) → from ≤ k → k < to → LegalCell rates distortions k
+abbrev pub LegalRun : (weigh : ℕ → ℕ) (rates distortions : List ℕ) (from to : ℕ) → Type 0
+LegalRun weigh rates distortions from to = (k : ℕ) → from ≤ k → k < to → LegalCell weigh rates distortions k
 
 -- cell k is the lowest of them that is not
-pub record LowestInRun (rates distortions : List ℕ) (from to k : ℕ) : Type 0 where
+pub record LowestInRun (weigh : ℕ → ℕ) (rates distortions : List ℕ) (from to k : ℕ) : Type 0 where
   pub behind : from ≤ k
   pub inside : k < to
-  pub illegal : LegalCell rates distortions k → ⊥
-  pub lowest : LegalRun rates distortions from k
+  pub illegal : LegalCell weigh rates distortions k → ⊥
+  pub lowest : LegalRun weigh rates distortions from k
 
 -- a run of cells came out as this
-pub data RunJudged (rates distortions : List ℕ) (from to : ℕ) : Option Refusal → Type 0 where
-  run-legal : LegalRun rates distortions from to → RunJudged rates distortions from to none
-  run-illegal : {k : ℕ} → LowestInRun rates distortions from to k → RunJudged rates distortions from to (some (refusal.Cell k))
+pub data RunJudged (weigh : ℕ → ℕ) (rates distortions : List ℕ) (from to : ℕ) : Option Refusal → Type 0 where
+  run-legal : LegalRun weigh rates distortions from to → RunJudged weigh rates distortions from to none
+  run-illegal : {k : ℕ} → LowestInRun weigh rates distortions from to k → RunJudged weigh rates distortions from to (some (refusal.Cell k))

@@ -21,7 +21,7 @@ use Rattle.lines.specs.Text.{lines}
 use Rattle.imports.specs.Import.{cell-of, out-of-range, member, fault, seen-with, first-fault, filled, with-said, rate-of, distortion-of, table-from}
 use Rattle.exports.specs.declared.place.Place.{Place}
 use Rattle.exports.specs.Export.{line-text, export-line, cell-line, place-at, export-from, export-text, Exportable, PlaceOf}
-use Rattle.exports.proofs.PlaceLaws.{in-cell-order, scan-of}
+use Rattle.exports.proofs.PlaceLaws.{in-cell-order, scan-below}
 use Rattle.lists.specs.Shown.{zeroed, said-at}
 use Rattle.lists.specs.Again.{ImportedAgain}
 use Rattle.lists.proofs.LineOfLaws.{Sized, lines-export, line-says}
@@ -105,9 +105,9 @@ module _ {N Q : ℕ} {rates distortions : List ℕ} (x : Exportable N Q rates di
   shown {c} {p} o h n =
       let l = x .legal c (omega (arith, h, x .rates-long)) in
       let r : getD rates c 0 ≤ most-cell = ⊎-elim (λ a. a) (λ e. absurd (n e)) (l .0) in
-      let d : getD distortions c 0 ≤ most-cell = ⊎-elim (λ a. a) (λ e. absurd (n e)) (l .1) in
+      let d : getD distortions c 0 ≤ most-cell = ⊎-elim (λ a. a .0) (λ e. absurd (n e)) (l .1) in
       let b = same-before o in
-      let i = scan-of (x .some-scans) o h in
+      let i = scan-below (x .some-scans) o h in
       record {
         sized = record {
           scan = omega (arith, i, x .scans);

@@ -91,8 +91,8 @@ filled-sound k R D = record {
   cells-sound = λ i h. inr (fill-at k forbidden R i h, fill-at k 0 D i h);
 }
 
-legal-of : {r d : ℕ} → SoundCell r d → LegalRate r × LegalBeside r d
-legal-of (inl a) = (inl (a .0), inl (a .1))
+legal-of : {r d : ℕ} → SoundCell r d → LegalRate r × LegalBeside 1 r d
+legal-of (inl a) = (inl (a .0), inl (a .1, omega (arith, a .1)))
 legal-of (inr a) = (inr (a .0), inr (a .0))
 
 zero-of : {r d : ℕ} → SoundCell r d → r ≡ forbidden → d ≡ 0

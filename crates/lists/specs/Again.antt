@@ -6,7 +6,7 @@ use Prim.Native.Nat.{ℕ, _<_}
 use lib.ListN.{length, getD, take, drop}
 use Rattle.tables.specs.Limits.{forbidden}
 use Rattle.tables.specs.Tables.{cells}
-use Rattle.tables.specs.Legal.{AllLegal}
+use Rattle.tables.specs.Legal.{AllLegal, no-weights}
 use Rattle.lines.specs.Text.{lines}
 use Rattle.imports.specs.Import.{first-fault, filled, table-from, rate-of, distortion-of}
 use Rattle.exports.specs.Export.{export-text}
@@ -31,7 +31,7 @@ imported-distortions N Q text D = take (cells N Q) (table-from distortion-of Q (
 pub record ImportedLegal (N Q : ℕ) (text R D : List ℕ) : Type 0 where
   pub rates-long : length (imported-rates N Q text R) ≡ cells N Q
   pub distortions-long : length (imported-distortions N Q text D) ≡ cells N Q
-  pub legal : AllLegal (imported-rates N Q text R) (imported-distortions N Q text D)
+  pub legal : AllLegal no-weights (imported-rates N Q text R) (imported-distortions N Q text D)
   pub zero-beside : (c : ℕ) → c < cells N Q → getD (imported-rates N Q text R) c 0 ≡ forbidden → getD (imported-distortions N Q text D) c 0 ≡ 0
   pub rates-rest : table-from rate-of Q (filled (cells N Q) forbidden R) (lines text) ≡ imported-rates N Q text R ++ drop (cells N Q) R
   pub distortions-rest : table-from distortion-of Q (filled (cells N Q) 0 D) (lines text) ≡ imported-distortions N Q text D ++ drop (cells N Q) D

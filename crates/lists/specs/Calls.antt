@@ -9,7 +9,7 @@ use lib.ListN.{length, getD, take, drop}
 use Rattle.tables.specs.declared.refusal.Refusal.the-variants as refusal
 use Rattle.tables.specs.Limits.{forbidden}
 use Rattle.tables.specs.Tables.{cells}
-use Rattle.tables.specs.Legal.{AllLegal}
+use Rattle.tables.specs.Legal.{AllLegal, no-weights}
 use Rattle.checks.specs.Checks.{when}
 use Rattle.lines.specs.declared.says.Entry.{Entry}
 use Rattle.lines.specs.Text.{lines}
@@ -60,7 +60,7 @@ pub record Returned (N Q : ℕ) (rates distortions text R D S : List ℕ) : Type
 
 -- tables that are legal, whose export is refused for want of room alone, and which come back from it as they are
 pub record Stays (N Q : ℕ) (rates distortions : List ℕ) : Type 0 where
-  pub legal : AllLegal rates distortions
+  pub legal : AllLegal no-weights rates distortions
   pub room-alone : (T : List ℕ) →
       export-refusal N Q rates distortions (length T) ≡ when (ltb (length T) (length (export-text N Q rates distortions))) refusal.Buffer
   pub again : (T R D S : List ℕ) → export-of N Q rates distortions T .reply .number ≡ 0 → Roomy N Q R D S →

@@ -54,6 +54,7 @@ fn ceiling(
     limit: u64,
     rates: &[u32],
     distortions: &[u32],
+    weights: &[u8],
     plan: &mut [u8],
     scratch: &mut [u8],
 ) {
@@ -65,6 +66,7 @@ fn ceiling(
         x,
         rates,
         distortions,
+        weights,
         plan,
         scratch,
     ));
@@ -76,6 +78,7 @@ fn multiplier(
     d: u64,
     rates: &[u32],
     distortions: &[u32],
+    weights: &[u8],
     plan: &mut [u8],
     scratch: &mut [u8],
 ) {
@@ -87,6 +90,7 @@ fn multiplier(
         d,
         rates,
         distortions,
+        weights,
         plan,
         scratch,
     ));
@@ -97,6 +101,7 @@ fn minmax(
     budget: u64,
     rates: &[u32],
     distortions: &[u32],
+    weights: &[u8],
     plan: &mut [u8],
     scratch: &mut [u8],
 ) {
@@ -107,6 +112,7 @@ fn minmax(
         budget,
         rates,
         distortions,
+        weights,
         plan,
         scratch,
     ));
@@ -117,6 +123,7 @@ fn average(
     budget: u64,
     rates: &[u32],
     distortions: &[u32],
+    weights: &[u8],
     plan: &mut [u8],
     scratch: &mut [u8],
 ) {
@@ -127,6 +134,7 @@ fn average(
         budget,
         rates,
         distortions,
+        weights,
         plan,
         scratch,
     ));
@@ -139,13 +147,23 @@ pub fn ask(
     other: u64,
     rates: &[u32],
     distortions: &[u32],
+    weights: &[u8],
     plan: &mut [u8],
     scratch: &mut [u8],
 ) {
     match which {
-        1 => ceiling(case, limit, rates, distortions, plan, scratch),
-        2 => multiplier(case, limit, other, rates, distortions, plan, scratch),
-        3 => minmax(case, limit, rates, distortions, plan, scratch),
-        _ => average(case, limit, rates, distortions, plan, scratch),
+        1 => ceiling(case, limit, rates, distortions, weights, plan, scratch),
+        2 => multiplier(
+            case,
+            limit,
+            other,
+            rates,
+            distortions,
+            weights,
+            plan,
+            scratch,
+        ),
+        3 => minmax(case, limit, rates, distortions, weights, plan, scratch),
+        _ => average(case, limit, rates, distortions, weights, plan, scratch),
     }
 }

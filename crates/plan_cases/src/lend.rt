@@ -1,7 +1,10 @@
-// Groups of calls: the tables are made once, and each call gets them with both buffers filled anew.
+// Groups of calls: the tables and the weights are made once, and each call gets them with both buffers filled anew.
 use crate::asks::Case;
 use crate::asks::ask;
 use crate::cells::made;
+use crate::weights::cells_source;
+use crate::weights::count_weights;
+use crate::weights::made_weights;
 use libc::STDOUT_FILENO;
 use shown::buffer::fill;
 use shown::buffer::put_buffer;
@@ -26,13 +29,30 @@ fn put_scratch(scratch: &[u8]) {
 }
 
 // One call.
-fn one(case: Case, rates: &[u32], distortions: &[u32], plan: &mut [u8], scratch: &mut [u8]) {
+fn one(
+    case: Case,
+    rates: &[u32],
+    distortions: &[u32],
+    weights: &[u8],
+    plan: &mut [u8],
+    scratch: &mut [u8],
+) {
     let which = word();
     let limit = word();
     let other = word();
     fill(plan, PLAN_FROM);
     fill(scratch, SCRATCH_FROM);
-    ask(which, case, limit, other, rates, distortions, plan, scratch);
+    ask(
+        which,
+        case,
+        limit,
+        other,
+        rates,
+        distortions,
+        weights,
+        plan,
+        scratch,
+    );
     put_plan(plan);
     put_scratch(scratch);
     end_line();
@@ -43,18 +63,25 @@ fn calls(
     count: u64,
     rates: &[u32],
     distortions: &[u32],
+    weights: &[u8],
     plan: &mut [u8],
     scratch: &mut [u8],
 ) {
     let mut left = count;
     while 0 < left {
-        one(case, rates, distortions, plan, scratch);
+        one(case, rates, distortions, weights, plan, scratch);
         left -= 1;
     }
 }
 
 // One group; false where the input ends.
-fn group(rates: &mut [u32], distortions: &mut [u32], plan: &mut [u8], scratch: &mut [u8]) -> bool {
+fn group(
+    rates: &mut [u32],
+    distortions: &mut [u32],
+    weights: &mut [u8],
+    plan: &mut [u8],
+    scratch: &mut [u8],
+) -> bool {
     let source = word();
     if source == 0 {
         return false;
@@ -69,13 +96,17 @@ fn group(rates: &mut [u32], distortions: &mut [u32], plan: &mut [u8], scratch: &
     let p = least(word(), plan.len());
     let s = least(word(), scratch.len());
     let count = word();
-    made(source, &mut rates[..r]);
-    made(source, &mut distortions[..d]);
+    let w = count_weights(source, case.scans, weights.len());
+    let cells = cells_source(source);
+    made(cells, &mut rates[..r]);
+    made(cells, &mut distortions[..d]);
+    made_weights(source, &mut weights[..w]);
     calls(
         case,
         count,
         &rates[..r],
         &distortions[..d],
+        &weights[..w],
         &mut plan[..p],
         &mut scratch[..s],
     );
@@ -86,11 +117,12 @@ fn group(rates: &mut [u32], distortions: &mut [u32], plan: &mut [u8], scratch: &
 pub fn every_group(
     rates: &mut [u32],
     distortions: &mut [u32],
+    weights: &mut [u8],
     plan: &mut [u8],
     scratch: &mut [u8],
 ) {
     let mut turns = u64::MAX;
-    while turns > 0 && group(rates, distortions, plan, scratch) {
+    while turns > 0 && group(rates, distortions, weights, plan, scratch) {
         turns -= 1;
     }
 }

@@ -16,7 +16,7 @@ use Rattle.laws.proofs.Tests.{neither}
 use Rattle.rules.specs.declared.Fields.{Fields}
 use Rattle.bytes.specs.Bytes.{number-at}
 use Rattle.blocks.specs.Letters.{Known, version-of}
-use Rattle.blocks.specs.File.{entry-of, header, data-blocks, file-length, file-of, entry-at}
+use Rattle.blocks.specs.File.{InVersion, entry-of, header, data-blocks, file-length, file-of, entry-at}
 use Rattle.tables.specs.Law.{Law, Tests, allows, law-out}
 use Rattle.entries.specs.Entries.{entry-broken, KeepsLaw}
 use Rattle.entries.proofs.EntryLaws.{keeps-law}
@@ -33,7 +33,7 @@ use Rattle.planfile.proofs.FieldLaws.{same-broken}
 use Rattle.blocks.proofs.LengthLaws.{within, right-length}
 use Rattle.blocks.proofs.LetterLaws.{version-known}
 use Rattle.blocks.proofs.SoundLaws.{sealed-part, blocks-part}
-use Rattle.planfile.proofs.HeaderLaws.{header-part}
+use Rattle.planfile.proofs.HeaderLaws.{held-part, header-part}
 
 -- what an accepted file has passed
 pub record ReadThrough (lawless : Bool) (test : ℕ → ℕ → Bool) (file : List ℕ) (room : ℕ) : Type 0 where
@@ -114,6 +114,10 @@ module _ {lawless : Bool} {test : ℕ → ℕ → Bool} (file : List ℕ) (room 
   unfolding faults-of
   known-letters = version-known file (h .rules .letters)
 
+  -- and that version holds the plan
+  held-in-file : InVersion (version-of file) f
+  held-in-file = held-part file (omega (arith, long)) (h .rules)
+
   -- the file is its block 0 and its data blocks
   written-back : Bytes file → file-of (version-of file) f settings ≡ file
   written-back bytes =
@@ -136,7 +140,8 @@ module _ {lawless : Bool} {test : ℕ → ℕ → Bool} (file : List ℕ) (room 
         settings = k .settings;
         law = k .law;
         kind = k .kind;
-        run-13 = refl;
+        weighted = neither (faults-of file .run_13) _ (k .weighted) .1;
+        run-14 = refl;
         n = k .n;
         d = k .d;
         rate = k .rate;
@@ -183,6 +188,10 @@ module _ (lawless : Bool) (test : ℕ → ℕ → Bool) (file : List ℕ) (room 
   pub accepted-known-under : Known (version-of file)
   accepted-known-under = known-letters file room (passed-under lawless test file room accepted)
 
+  -- And that version holds the plan: a QPL1 file has no mark.
+  pub accepted-held-under : InVersion (version-of file) (fields-of file)
+  accepted-held-under = held-in-file file room (passed-under lawless test file room accepted)
+
   -- Its settings keep the law, of which the reader had a test.
   pub accepted-keeps : {law : Law} → Tests test law → KeepsLaw law (fields-of file .scans) (fields-of file .settings) (entry-at file)
   accepted-keeps tests = kept-law file room (passed-under lawless test file room accepted) tests
@@ -203,6 +212,9 @@ accepted-file file room bytes e = accepted-file-under (law-out (fields-of file .
 
 pub accepted-known : (file : List ℕ) (room : ℕ) → read-refusal file room ≡ none → Known (version-of file)
 accepted-known file room e = accepted-known-under (law-out (fields-of file .law)) (allows (fields-of file .law)) file room e
+
+pub accepted-held : (file : List ℕ) (room : ℕ) → read-refusal file room ≡ none → InVersion (version-of file) (fields-of file)
+accepted-held file room e = accepted-held-under (law-out (fields-of file .law)) (allows (fields-of file .law)) file room e
 
 pub accepted-plan : (file : List ℕ) (room room₂ : ℕ) → read-refusal file room ≡ none → file-length (fields-of file .scans) ≤ room₂
     → write-refusal (fields-of file) (entries (entry-at file) 0 (fields-of file .scans)) room₂ ≡ none

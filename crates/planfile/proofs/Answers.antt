@@ -28,6 +28,7 @@ read-from v = record {
     distortion = record { 0 = getD v 8 0 };
     peak = getD v 9 0;
     floor = record { 0 = getD v 10 0 };
+    weighted = getD v 12 0;
   };
   version = getD v 11 0;
 }

@@ -1,22 +1,23 @@
--- Theorem a: a plan's file reads back, as one of either version, whatever test the entries are put to, where the number of the law fits its
--- byte; and where it is a test of a law, they keep it. The writer's is the one of QPL2. Assumes nothing.
+-- Theorem a: a plan's file reads back, as one of either version that can hold the plan, whatever test the entries are put to, where the number
+-- of the law fits its byte; and where it is a test of a law, they keep it. The writer's is the one of QPL2. Assumes nothing.
 use mathlib.Core.Path.{_≡_, refl, sym, ap, _∙_}
 use mathlib.Core.Bool.{Bool, false, cond}
 use mathlib.Core.Option.{none}
-use mathlib.Core.List.{List, []}
+use mathlib.Core.List.{List, [], _++_}
 use Prim.Native.Nat.{ℕ, zero, suc, _+_, _*_, _-_, _/_, _^_, _≤_, _<_}
 use native.Mathlib.Decide.{decLt}
 use native.Mathlib.Omega.{arith}
 use lib.Dec.{eqb, ltb}
-use lib.ListN.{length, getD, take, length-append}
-use borrow.Author.Tests.{lt-ltb, le-ltb, ne-eqb}
+use lib.ListN.{length, getD, take, replicate, length-append}
+use borrow.Author.Tests.{lt-ltb, le-ltb, eq-eqb, ne-eqb}
 use Rattle.tables.specs.declared.refusal.Refusal.the-variants as refusal
 use Rattle.tables.specs.Law.{Law, Tests, allows, law-out}
 use Rattle.tables.proofs.LawLaws.{known-small}
 use Rattle.rules.specs.declared.Fields.{Fields}
 use Rattle.bytes.specs.Bytes.{le, part, number-at}
-use Rattle.blocks.specs.Letters.{no-version, Known, letters, version-of}
-use Rattle.blocks.specs.File.{header, sealed, entry-of, data-from, data-blocks, file-length, file-of, entry-at, other-length}
+use Rattle.blocks.specs.Differ.{differ}
+use Rattle.blocks.specs.Letters.{no-version, qpl2, Known, letters, version-of}
+use Rattle.blocks.specs.File.{InVersion, header, sealed, entry-of, data-from, data-blocks, file-length, file-of, entry-at, other-length}
 use Rattle.entries.specs.Entries.{entry-broken, KeepsLaw}
 use Rattle.entries.proofs.EntryLaws.{keeps-law}
 use Rattle.checks.specs.Checks.{when}
@@ -62,6 +63,11 @@ letters-back version f settings = refl
 pub version-back : (version : ℕ) → Known version → (f : Fields) (settings : List ℕ) → version-of (file-of version f settings) ≡ version
 version-back version known f settings = letters-version version known (file-of version f settings) (letters-back version f settings)
 
+-- the bytes from 13 on of a plan with no mark
+no-mark : (weighted : ℕ) → weighted ≡ 0 → differ (replicate 3 0) (le 1 weighted ++ replicate 2 0) ≡ false
+unfolding le
+no-mark weighted e = rw e refl
+
 module _ {lawless : Bool} {test : ℕ → ℕ → Bool} (version : ℕ) (known : Known version) (f : Fields) (settings : List ℕ)
     (k : Writable lawless test f settings) where
   -- the file
@@ -92,6 +98,7 @@ module _ {lawless : Bool} {test : ℕ → ℕ → Bool} (version : ℕ) (known :
     distortion = record { 0 = value-le 4 (f .distortion .0) (omega (arith, bounds .distortion)) i };
     peak = value-le 4 (f .peak) (omega (arith, bounds .peak)) i;
     floor = record { 0 = value-le 4 (f .floor .0) (omega (arith, bounds .floor)) i };
+    weighted = value-le 1 (f .weighted) (omega (arith, bounds .weighted)) i;
   }
 
   -- the length goes with the N that is read
@@ -102,10 +109,23 @@ module _ {lawless : Bool} {test : ℕ → ℕ → Bool} (version : ℕ) (known :
   letters-kept : eqb (version-of file) no-version ≡ false
   letters-kept = rw (version-back version known f settings) (ne-eqb version no-version (λ e. absurd (omega (arith, e, known .0))))
 
+  -- some byte from 13 to 15 is not zero
+  abbrev run-13 : Bool
+  run-13 = differ (replicate 3 0) (part 13 3 file)
+
+  -- none is, or QPL2 does not ask
+  run-kept : InVersion version f → cond (eqb (version-of file) qpl2) false run-13 ≡ false
+  unfolding header le
+  run-kept held = ap (λ (v : ℕ). cond (eqb v qpl2) false run-13) (version-back version known f settings) ∙ of (decLt version qpl2)
+    where
+      of : Dec (version < qpl2) → cond (eqb version qpl2) false run-13 ≡ false
+      of (yes h) = rw (ne-eqb version qpl2 (λ e. absurd (omega (arith, h, e)))) (no-mark (f .weighted) (held (omega (arith, known .0, h))))
+      of (no h) = rw (eq-eqb version qpl2 (omega (arith, known .1, h))) refl
+
   -- the letters, the zeros and the length are as they should be
-  kept-marks : faults-of file ≡ no-faults
+  kept-marks : InVersion version f → faults-of file ≡ no-faults
   unfolding faults-of header le
-  kept-marks = λ i. record { letters = letters-kept i; length = length-kept i; run_13 = false; run_48 = false }
+  kept-marks held = λ i. record { letters = letters-kept i; length = length-kept i; run_13 = run-kept held i; run_14 = false; run_48 = false }
 
   -- every block is sound
   kept-blocks : bad-block file ≡ none
@@ -128,9 +148,9 @@ module _ {lawless : Bool} {test : ℕ → ℕ → Bool} (version : ℕ) (known :
           (omega arith))
 
   -- no field breaks its rule
-  kept-rules : f .law < 256 → f .budget < 2 ^ 64 → broken-field-under lawless file ≡ none
+  kept-rules : InVersion version f → f .law < 256 → f .budget < 2 ^ 64 → broken-field-under lawless file ≡ none
   unfolding broken-field-under
-  kept-rules l h = rw (kept-marks, kept-fields l h) (rules-pass lawless no-faults f (k .rules))
+  kept-rules held l h = rw (kept-marks held, kept-fields l h) (rules-pass lawless no-faults f (k .rules))
 
   -- each entry of the data blocks is the one that was written there
   kept-entry : (j : ℕ) → j < 1008 * data-blocks (f .scans) → entry-at file j ≡ entry-of (f .scans) settings j
@@ -194,14 +214,15 @@ module _ (lawless : Bool) (test : ℕ → ℕ → Bool) (f : Fields) (settings :
       pub fields-back-under : fields-of (file-of version f settings) ≡ f
       fields-back-under = kept-fields version known f settings found-writable byte budget
 
-      -- the reader refuses nothing but a buffer that is too short
-      pub read-back-under : (room′ : ℕ) → read-refusal-under lawless test (file-of version f settings) room′ ≡ when (ltb room′ (f .scans)) refusal.Buffer
+      -- the reader refuses nothing but a buffer that is too short, where the version can hold the plan
+      pub read-back-under : InVersion version f → (room′ : ℕ) →
+          read-refusal-under lawless test (file-of version f settings) room′ ≡ when (ltb room′ (f .scans)) refusal.Buffer
       unfolding read-refusal-under
-      read-back-under room′ =
+      read-back-under held room′ =
           rw (
             length-sound version f settings,
             sound-back-under,
-            kept-rules version known f settings found-writable byte budget,
+            kept-rules version known f settings found-writable held byte budget,
             fields-back-under,
             kept-entries version known f settings found-writable byte budget,
           )
@@ -223,7 +244,8 @@ module _ (f : Fields) (settings : List ℕ) (room : ℕ) (written : write-refusa
     pub fields-back : fields-of (file-of version f settings) ≡ f
     fields-back = fields-back-under (law-out (f .law)) (allows (f .law)) f settings room written version known law-fits budget
 
-    pub read-back : (room′ : ℕ) → read-refusal (file-of version f settings) room′ ≡ when (ltb room′ (f .scans)) refusal.Buffer
-    read-back room′ =
+    pub read-back : InVersion version f → (room′ : ℕ) →
+        read-refusal (file-of version f settings) room′ ≡ when (ltb room′ (f .scans)) refusal.Buffer
+    read-back held room′ =
         ap (λ (g : Fields). read-refusal-under (law-out (g .law)) (allows (g .law)) (file-of version f settings) room′) fields-back
-        ∙ read-back-under (law-out (f .law)) (allows (f .law)) f settings room written version known law-fits budget room′
+        ∙ read-back-under (law-out (f .law)) (allows (f .law)) f settings room written version known law-fits budget held room′

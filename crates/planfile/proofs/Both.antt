@@ -21,7 +21,7 @@ use Rattle.planfile.specs.Sentence.{HasPlan}
 use Rattle.bytes.proofs.NumberLaws.{number-small}
 use Rattle.blocks.proofs.LetterLaws.{qpl1-known, qpl2-known}
 use Rattle.planfile.proofs.Back.{version-back, fields-back, settings-back, read-back}
-use Rattle.planfile.proofs.Accepted.{passed, accepted-file, accepted-plan}
+use Rattle.planfile.proofs.Accepted.{passed, accepted-file, accepted-held, accepted-plan}
 
 -- an accepted file has the plan that is read, in its version
 plan-of : (file : List ℕ) (room : ℕ) → ((i : ℕ) → getD file i 0 < 256) → read-refusal file room ≡ none → HasPlan (version-of file) file room
@@ -33,6 +33,7 @@ plan-of file room bytes e = record {
   budget = omega (arith, number-small 16 8 file bytes);
   enough = passed file room e .enough;
   written = accepted-plan file room (file-length (fields-of file .scans)) e (omega arith);
+  held = accepted-held file room e;
   same = sym (accepted-file file room bytes e);
 }
 
@@ -41,7 +42,7 @@ module _ (version : ℕ) (known : Known version) (file : List ℕ) where
   accepted : (room : ℕ) → HasPlan version file room → read-refusal file room ≡ none
   accepted room p =
       ap (λ (l : List ℕ). read-refusal l room) (p .same)
-      ∙ read-back (p .fields) (p .settings) (p .buffer) (p .written) version known (p .budget) room
+      ∙ read-back (p .fields) (p .settings) (p .buffer) (p .written) version known (p .budget) (p .held) room
       ∙ ap (λ b. when b refusal.Buffer) (le-ltb room (p .fields .scans) (p .enough))
 
   -- as one of that version
@@ -66,7 +67,7 @@ module _ (version : ℕ) (known : Known version) (file : List ℕ) where
       ∙ settings-back (p .fields) (p .settings) (p .buffer) (p .written) version known
 
 -- So the files that are accepted as QPL2 are those that the writer writes, of plans that fit; and those that are accepted as QPL1 are those
--- of the same plans with the old letters and the old sum.
+-- of the same plans with the old letters and the old sum, but for plans with the mark of weights, which have none.
 module _ (file : List ℕ) (room : ℕ) (bytes : (i : ℕ) → getD file i 0 < 256) where
   pub accepts-qpl2 : ((read-refusal file room ≡ none) × (version-of file ≡ qpl2)) ↔ HasPlan qpl2 file room
   accepts-qpl2 = accepts-plans qpl2 qpl2-known file room bytes

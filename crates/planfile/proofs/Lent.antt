@@ -21,6 +21,7 @@ use Rattle.planfile.specs.declared.write.WriteAnswer.the-variants.{Writt
 use Rattle.planfile.specs.Reading.{fields-of, plan-read, read-values, read-refusal, read-of, read-reply, entries, settings-after}
 use Rattle.planfile.specs.Writing.{write-refusal, write-of, write-reply, file-after}
 use Rattle.blocks.proofs.LetterLaws.{qpl2-known}
+use Rattle.blocks.proofs.HeaderLaws.{held-in-qpl2}
 use Rattle.planfile.specs.Sentence.{file-left, WrittenAndRead, settings-left, ReadAndWritten}
 use Rattle.planfile.proofs.EntryLaws.{length-entries}
 use Rattle.planfile.proofs.Back.{length-back, version-back, fields-back, settings-back, read-back}
@@ -62,7 +63,7 @@ written-reads-back f settings buffer lent w small room =
     ap (λ (l : List ℕ). entries (entry-at l) 0 (f .scans)) same ∙ settings-back f settings (length buffer) w qpl2 qpl2-known in
     let unrefused : read-refusal file (length lent) ≡ none =
     ap (λ (l : List ℕ). read-refusal l (length lent)) same
-    ∙ read-back f settings (length buffer) w qpl2 qpl2-known small (length lent)
+    ∙ read-back f settings (length buffer) w qpl2 qpl2-known small (held-in-qpl2 f) (length lent)
     ∙ ap (λ (t : Bool). when t refusal.Buffer) (le-ltb (length lent) (f .scans) room) in
     record {
       written = written-as f settings (length buffer) w;

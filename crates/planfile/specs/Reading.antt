@@ -1,12 +1,12 @@
 -- What the reader answers. Assumes nothing.
-use mathlib.Core.Bool.{Bool}
+use mathlib.Core.Bool.{Bool, false, cond}
 use mathlib.Core.Option.{Option, none, some}
 use mathlib.Core.List.{List, [], _∷_, _++_}
 use Prim.Native.Nat.{ℕ, zero, suc, _*_, _-_, _/_}
 use lib.Dec.{eqb, ltb}
 use lib.ListN.{length, drop, replicate}
 use Rattle.rules.specs.declared.Faults.{Faults}
-use Rattle.blocks.specs.Sizes.{first-run, last-run, block-size, block-entries}
+use Rattle.blocks.specs.Sizes.{first-run, short-run, last-run, block-size, block-entries}
 use Rattle.tables.specs.declared.refusal.Refusal.{Refusal}
 use Rattle.tables.specs.declared.refusal.Refusal.the-variants as refusal
 use Rattle.tables.specs.Refusals.{Reply, refused, answered}
@@ -17,7 +17,7 @@ use Rattle.planfile.specs.declared.read.ReadAnswer.{ReadAnswer}
 use Rattle.planfile.specs.declared.read.ReadAnswer.the-variants.{Read, Refused}
 use Rattle.bytes.specs.Bytes.{part, number-at}
 use Rattle.blocks.specs.Differ.{differ}
-use Rattle.blocks.specs.Letters.{no-version, version-of}
+use Rattle.blocks.specs.Letters.{no-version, qpl2, version-of}
 use Rattle.blocks.specs.File.{entry-at, other-length}
 use Rattle.tables.specs.Law.{allows, law-out}
 use Rattle.rules.specs.Rules.{header-rules}
@@ -38,13 +38,17 @@ fields-of file = record {
   distortion = record { 0 = number-at 36 4 file };
   peak = number-at 40 4 file;
   floor = record { 0 = number-at 44 4 file };
+  weighted = number-at 13 1 file;
 }
 
+-- "In QPL2, byte 13 becomes a field of its own ..; 14 to 15 stay zero as the next field. QPL1 keeps 13 to 15 zero.": in QPL1 (and with
+-- letters that are neither, which are charged before) 13 to 15 are one run, and where that is broken 14 to 15 do not count any more
 unfoldable pub faults-of : List ℕ → Faults
 faults-of file = record {
   letters = eqb (version-of file) no-version;
   length = other-length (length file) (number-at 8 2 file);
-  run_13 = differ (replicate first-run 0) (part 13 first-run file);
+  run_13 = cond (eqb (version-of file) qpl2) false (differ (replicate first-run 0) (part 13 first-run file));
+  run_14 = differ (replicate short-run 0) (part 14 short-run file);
   run_48 = differ (replicate last-run 0) (part 48 last-run file);
 }
 
@@ -89,11 +93,12 @@ read-refusal file room = read-refusal-under (law-out (fields-of file .law)) (all
 abbrev pub plan-read : List ℕ → PlanRead
 plan-read file = record { fields = fields-of file; version = version-of file }
 
--- scans, settings, law, kind, budget, n, d, rate, distortion, peak, floor, version
+-- scans, settings, law, kind, budget, n, d, rate, distortion, peak, floor, version, weighted
 abbrev pub read-values : PlanRead → List ℕ
 read-values p =
     let f = p .fields in
-    f .scans ∷ f .settings ∷ f .law ∷ f .kind ∷ f .budget ∷ f .n ∷ f .d ∷ f .rate .0 ∷ f .distortion .0 ∷ f .peak ∷ f .floor .0 ∷ p .version ∷ []
+    f .scans ∷ f .settings ∷ f .law ∷ f .kind ∷ f .budget ∷ f .n ∷ f .d ∷ f .rate .0 ∷ f .distortion .0 ∷ f .peak ∷ f .floor .0 ∷ p .version
+    ∷ f .weighted ∷ []
 
 unfoldable pub read-of : List ℕ → ℕ → Reply
 read-of file room = or-answer (read-refusal file room) (read-values (plan-read file))

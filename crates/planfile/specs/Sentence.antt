@@ -8,7 +8,7 @@ use Prim.Native.Nat.{ℕ, _^_, _≤_, _<_}
 use lib.ListN.{length, take, drop}
 use Rattle.rules.specs.declared.Fields.{Fields}
 use Rattle.blocks.specs.Letters.{qpl2, version-of}
-use Rattle.blocks.specs.File.{file-of, file-length}
+use Rattle.blocks.specs.File.{InVersion, file-of, file-length}
 use Rattle.planfile.specs.declared.read.ReadAnswer.the-variants.{Read}
 use Rattle.planfile.specs.declared.write.WriteAnswer.the-variants.{Written}
 use Rattle.planfile.specs.Reading.{fields-of, plan-read, read-refusal, read-of, read-reply, settings-after}
@@ -45,8 +45,8 @@ pub record ReadAndWritten (file lent buffer : List ℕ) : Type 0 where
   -- which is the same file, where it was in QPL2
   pub same : version-of file ≡ qpl2 → file-left (fields-of file) (settings-left file lent) buffer ≡ file
 
--- A plan that has this file in this version: the writer accepts it, with a buffer of some length, and its N settings fit a buffer of `room`.
--- The budget is a number of 64 bits, as in the code.
+-- A plan that has this file in this version: the writer accepts it, with a buffer of some length, its N settings fit a buffer of `room`, and
+-- the version can hold it. The budget is a number of 64 bits, as in the code.
 pub record HasPlan (version : ℕ) (file : List ℕ) (room : ℕ) : Type 0 where
   pub fields : Fields
   pub settings : List ℕ
@@ -54,4 +54,5 @@ pub record HasPlan (version : ℕ) (file : List ℕ) (room : ℕ) : Type 0 where
   pub budget : fields .budget < 2 ^ 64
   pub enough : fields .scans ≤ room
   pub written : write-refusal fields settings buffer ≡ none
+  pub held : InVersion version fields
   pub same : file ≡ file-of version fields settings

@@ -21,7 +21,7 @@ use Rattle.entries.specs.Entries.{entry-broken}
 
 -- what is written has its letters, its zeros and its length
 abbrev pub no-faults : Faults
-no-faults = record { letters = false; length = false; run_13 = false; run_48 = false }
+no-faults = record { letters = false; length = false; run_13 = false; run_14 = false; run_48 = false }
 
 -- 6: "where its settings slice is under N or its buffer too short"
 abbrev pub write-short : (N settings file : ℕ) → Bool

@@ -1,12 +1,14 @@
 // Block 0 as it is read: its fields and its faults.
-ghost use Rattle.blocks.specs.Sizes.{«block-size»};
+ghost use Rattle.blocks.specs.Sizes.{«block-size», «first-run»};
 use blocks::letters::NO_VERSION;
+use blocks::letters::QPL2;
 use blocks::letters::version_of;
 use blocks::sizes::ENTRIES;
 use blocks::sizes::FIRST_RUN;
 use blocks::sizes::LAST_RUN;
 use blocks::sizes::LONG_FILE;
 use blocks::sizes::SHORT_FILE;
+use blocks::sizes::SHORT_RUN;
 use bytes::numbers::eight;
 use bytes::numbers::four;
 use bytes::numbers::one;
@@ -18,10 +20,13 @@ use rules::Faults;
 use rules::Fields;
 use rules::rules;
 ghost use mathlib.Core.Path.{_≡_};
+ghost use mathlib.Core.Bool.{false, cond};
 ghost use Prim.Native.Nat.{_+_, _≤_};
+ghost use lib.Dec.{eqb};
 ghost use lib.ListN.{length, replicate};
 ghost use Rattle.bytes.specs.Bytes.{part, «number-at»};
 ghost use Rattle.blocks.specs.Differ.{differ};
+ghost use Rattle.blocks.specs.Letters.{qpl2};
 ghost use Rattle.blocks.specs.File.{«other-length»};
 ghost use Rattle.planfile.specs.Reading.{«fields-of», «faults-of», «broken-field»};
 ghost use Rattle.checks.specs.Stages.{ended};
@@ -34,6 +39,7 @@ pub fn fields(file: &[u8]) -> Fields
     let settings = one(file, 10);
     let law = one(file, 11);
     let kind = one(file, 12);
+    let weighted = one(file, 13);
     let budget = eight(file, 16);
     let n = four(file, 24);
     let d = four(file, 28);
@@ -53,6 +59,7 @@ pub fn fields(file: &[u8]) -> Fields
         distortion,
         peak,
         floor,
+        weighted,
     }
 }
 
@@ -71,6 +78,17 @@ fn not_zero(file: &[u8], at: usize, k: usize) -> bool
     false
 }
 
+// QPL1 keeps bytes 13 to 15 zero; in QPL2 byte 13 is a field of its own.
+fn run_13_wrong(version: u64, file: &[u8]) -> bool
+    requires { ⌜ block-size ≤ length (now file) ⌝ }
+    ensures { λ r. ⌜ r ≡ cond (eqb version qpl2) false (differ (replicate first-run 0) (part 13 first-run (now (file .entry)))) ⌝ }
+{
+    if version == QPL2 {
+        return false;
+    }
+    not_zero(file, 13, FIRST_RUN)
+}
+
 // N over 1,008 goes with length 1,536 and smaller N with 1,024.
 fn wrong_length(length: usize, scans: u64) -> bool
     ensures { λ r. ⌜ r ≡ other-length length scans ⌝ }
@@ -85,14 +103,17 @@ fn faults(file: &[u8], scans: u64) -> Faults
     requires { ⌜ (block-size ≤ length (now file)) × (scans ≡ number-at 8 2 (now file)) ⌝ }
     ensures { λ r. ⌜ r ≡ faults-of (now (file .entry)) ⌝ }
 {
-    let letters = version_of(file) == NO_VERSION;
+    let version = version_of(file);
+    let letters = version == NO_VERSION;
     let length = wrong_length(file.len(), scans);
-    let run_13 = not_zero(file, 13, FIRST_RUN);
+    let run_13 = run_13_wrong(version, file);
+    let run_14 = not_zero(file, 14, SHORT_RUN);
     let run_48 = not_zero(file, 48, LAST_RUN);
     Faults {
         letters,
         length,
         run_13,
+        run_14,
         run_48,
     }
 }

@@ -79,6 +79,7 @@ fn stages(f: Fields, settings: &[u8], room: u64) -> Stage
         letters: false,
         length: false,
         run_13: false,
+        run_14: false,
         run_48: false,
     };
     // Neither of the two needs the other. Their order is that of the answers below.

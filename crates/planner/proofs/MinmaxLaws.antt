@@ -17,8 +17,8 @@ use Rattle.search.specs.Search.{SomeFits, LeastCeiling}
 use Rattle.seek.proofs.SeekLaws.{peak-fits}
 
 -- the least-rate plan's peak is a ceiling under which something fits
-pub peak-bound : (law : Law) {N Q room B : ℕ} {rates distortions : List ℕ} {t : Totals} → Fit N Q rates distortions room →
-    ThriftyTotals (planning (table-under law N Q rates distortions)) B t → t .peak ≤ most-cell
+pub peak-bound : (law : Law) {N Q room B : ℕ} {rates distortions weights : List ℕ} {t : Totals} → Fit N Q rates distortions weights room →
+    ThriftyTotals (planning (table-under law N Q rates distortions weights)) B t → t .peak ≤ most-cell
 peak-bound law fit h = omega (arith, h .totals .peak, peak-fits law fit (h .plan) (h .thriftiest .one))
 
 pub thrifty-fits : {P : Problem} {B X : ℕ} {t : Totals} → X ≡ t .peak → ThriftyTotals P B t → SomeFits P B X

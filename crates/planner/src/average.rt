@@ -34,17 +34,37 @@ fn average_that_fits(
     lo: Totals,
     rates: &[u32],
     distortions: &[u32],
+    weights: &[u8],
     plan: &mut [u8],
     scratch: &mut [u8],
 ) -> AverageAnswer
-    requires { ⌜ Fit scans settings (now rates) (now distortions) (length (now scratch)) × (scans ≤ length (now plan)) ⌝ }
-    requires { ⌜ ThriftyTotals (planning (table scans settings law (now rates) (now distortions))) budget lo ⌝ }
-    ensures { λ r. ⌜ Delivered (IsAveragePlan (planning (table scans settings law (now (rates .entry)) (now (distortions .entry)))) budget) scans settings (now (plan .entry)) (now (scratch .entry)) (average-reply r) (now (plan .exit)) (now (scratch .exit)) ⌝ }
+    requires { ⌜ Fit scans settings (now rates) (now distortions) (now weights) (length (now scratch)) × (scans ≤ length (now plan)) ⌝ }
+    requires { ⌜ ThriftyTotals (planning (table scans settings law (now rates) (now distortions) (now weights))) budget lo ⌝ }
+    ensures { λ r. ⌜ Delivered (IsAveragePlan (planning (table scans settings law (now (rates .entry)) (now (distortions .entry)) (now (weights .entry)))) budget) scans settings (now (plan .entry)) (now (scratch .entry)) (average-reply r) (now (plan .exit)) (now (scratch .exit)) ⌝ }
 {
-    multiplier_pass(scans, settings, law, 0, 1, rates, distortions, scratch);
-    let hi = total_up(scans, settings, law, rates, distortions, scratch);
+    multiplier_pass(
+        scans,
+        settings,
+        law,
+        0,
+        1,
+        rates,
+        distortions,
+        weights,
+        scratch,
+    );
+    let hi = total_up(scans, settings, law, rates, distortions, weights, scratch);
     if hi.rate.0 <= budget {
-        let totals = finish(scans, settings, law, rates, distortions, plan, scratch);
+        let totals = finish(
+            scans,
+            settings,
+            law,
+            rates,
+            distortions,
+            weights,
+            plan,
+            scratch,
+        );
         return AverageAnswer::Planned(answer(0, 1, budget, totals));
     }
     let s = slopes(
@@ -55,9 +75,19 @@ fn average_that_fits(
         Bracket { lo, hi },
         rates,
         distortions,
+        weights,
         scratch,
     );
-    let totals = finish(scans, settings, law, rates, distortions, plan, scratch);
+    let totals = finish(
+        scans,
+        settings,
+        law,
+        rates,
+        distortions,
+        weights,
+        plan,
+        scratch,
+    );
     AverageAnswer::Planned(answer(s.n, s.d, budget, totals))
 }
 
@@ -69,13 +99,23 @@ fn sound_average(
     budget: u64,
     rates: &[u32],
     distortions: &[u32],
+    weights: &[u8],
     plan: &mut [u8],
     scratch: &mut [u8],
 ) -> AverageAnswer
-    requires { ⌜ Sound none (asking scans settings law (now rates) (now distortions) (length (now plan)) (length (now scratch))) ⌝ }
-    ensures { λ r. ⌜ AveragePromise (asking scans settings law (now (rates .entry)) (now (distortions .entry)) (length (now (plan .entry))) (length (now (scratch .entry)))) budget (now (plan .entry)) (now (scratch .entry)) r (now (plan .exit)) (now (scratch .exit)) ⌝ }
+    requires { ⌜ Sound none (asking scans settings law (now rates) (now distortions) (now weights) (length (now plan)) (length (now scratch))) ⌝ }
+    ensures { λ r. ⌜ AveragePromise (asking scans settings law (now (rates .entry)) (now (distortions .entry)) (now (weights .entry)) (length (now (plan .entry))) (length (now (scratch .entry)))) budget (now (plan .entry)) (now (scratch .entry)) r (now (plan .exit)) (now (scratch .exit)) ⌝ }
 {
-    let started = start(scans, settings, law, budget, rates, distortions, scratch);
+    let started = start(
+        scans,
+        settings,
+        law,
+        budget,
+        rates,
+        distortions,
+        weights,
+        scratch,
+    );
     match started {
         Started::Plan(lo) => average_that_fits(
             scans,
@@ -85,6 +125,7 @@ fn sound_average(
             lo,
             rates,
             distortions,
+            weights,
             plan,
             scratch,
         ),
@@ -99,10 +140,11 @@ pub fn average_plan(
     budget: u64,
     rates: &[u32],
     distortions: &[u32],
+    weights: &[u8],
     plan: &mut [u8],
     scratch: &mut [u8],
 ) -> AverageAnswer
-    ensures { λ r. ⌜ AveragePromise (asking scans settings law (now (rates .entry)) (now (distortions .entry)) (length (now (plan .entry))) (length (now (scratch .entry)))) budget (now (plan .entry)) (now (scratch .entry)) r (now (plan .exit)) (now (scratch .exit)) ⌝ }
+    ensures { λ r. ⌜ AveragePromise (asking scans settings law (now (rates .entry)) (now (distortions .entry)) (now (weights .entry)) (length (now (plan .entry))) (length (now (scratch .entry)))) budget (now (plan .entry)) (now (scratch .entry)) r (now (plan .exit)) (now (scratch .exit)) ⌝ }
 {
     let checked = check(
         scans,
@@ -111,6 +153,7 @@ pub fn average_plan(
         Stage::Passed,
         rates,
         distortions,
+        weights,
         plan.len(),
         scratch.len(),
     );
@@ -122,6 +165,7 @@ pub fn average_plan(
             budget,
             rates,
             distortions,
+            weights,
             plan,
             scratch,
         );

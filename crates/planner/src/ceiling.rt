@@ -20,14 +20,33 @@ fn sound_ceiling(
     ceiling: u32,
     rates: &[u32],
     distortions: &[u32],
+    weights: &[u8],
     plan: &mut [u8],
     scratch: &mut [u8],
 ) -> PlanAnswer
-    requires { ⌜ Sound none (asking scans settings law (now rates) (now distortions) (length (now plan)) (length (now scratch))) ⌝ }
-    ensures { λ r. ⌜ CeilingPromise (asking scans settings law (now (rates .entry)) (now (distortions .entry)) (length (now (plan .entry))) (length (now (scratch .entry)))) ceiling (now (plan .entry)) (now (scratch .entry)) r (now (plan .exit)) (now (scratch .exit)) ⌝ }
+    requires { ⌜ Sound none (asking scans settings law (now rates) (now distortions) (now weights) (length (now plan)) (length (now scratch))) ⌝ }
+    ensures { λ r. ⌜ CeilingPromise (asking scans settings law (now (rates .entry)) (now (distortions .entry)) (now (weights .entry)) (length (now (plan .entry))) (length (now (scratch .entry)))) ceiling (now (plan .entry)) (now (scratch .entry)) r (now (plan .exit)) (now (scratch .exit)) ⌝ }
 {
-    if thrifty_pass(scans, settings, law, ceiling, rates, distortions, scratch) {
-        return PlanAnswer::Planned(finish(scans, settings, law, rates, distortions, plan, scratch));
+    if thrifty_pass(
+        scans,
+        settings,
+        law,
+        ceiling,
+        rates,
+        distortions,
+        weights,
+        scratch,
+    ) {
+        return PlanAnswer::Planned(finish(
+            scans,
+            settings,
+            law,
+            rates,
+            distortions,
+            weights,
+            plan,
+            scratch,
+        ));
     }
     // Nothing is under the ceiling: is there a sequence at all?
     let any = thrifty_pass(
@@ -37,6 +56,7 @@ fn sound_ceiling(
         NO_CEILING,
         rates,
         distortions,
+        weights,
         scratch,
     );
     close(false, scans, settings, plan, scratch);
@@ -53,10 +73,11 @@ pub fn ceiling_plan(
     ceiling: u32,
     rates: &[u32],
     distortions: &[u32],
+    weights: &[u8],
     plan: &mut [u8],
     scratch: &mut [u8],
 ) -> PlanAnswer
-    ensures { λ r. ⌜ CeilingPromise (asking scans settings law (now (rates .entry)) (now (distortions .entry)) (length (now (plan .entry))) (length (now (scratch .entry)))) ceiling (now (plan .entry)) (now (scratch .entry)) r (now (plan .exit)) (now (scratch .exit)) ⌝ }
+    ensures { λ r. ⌜ CeilingPromise (asking scans settings law (now (rates .entry)) (now (distortions .entry)) (now (weights .entry)) (length (now (plan .entry))) (length (now (scratch .entry)))) ceiling (now (plan .entry)) (now (scratch .entry)) r (now (plan .exit)) (now (scratch .exit)) ⌝ }
 {
     let checked = check(
         scans,
@@ -65,6 +86,7 @@ pub fn ceiling_plan(
         Stage::Passed,
         rates,
         distortions,
+        weights,
         plan.len(),
         scratch.len(),
     );
@@ -76,6 +98,7 @@ pub fn ceiling_plan(
             ceiling,
             rates,
             distortions,
+            weights,
             plan,
             scratch,
         );

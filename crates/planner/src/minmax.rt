@@ -30,12 +30,13 @@ fn minmax_that_fits(
     thriftiest: Totals,
     rates: &[u32],
     distortions: &[u32],
+    weights: &[u8],
     plan: &mut [u8],
     scratch: &mut [u8],
 ) -> MinmaxAnswer
-    requires { ⌜ Fit scans settings (now rates) (now distortions) (length (now scratch)) × (scans ≤ length (now plan)) ⌝ }
-    requires { ⌜ ThriftyTotals (planning (table scans settings law (now rates) (now distortions))) budget thriftiest ⌝ }
-    ensures { λ r. ⌜ Delivered (IsMinmaxPlan (planning (table scans settings law (now (rates .entry)) (now (distortions .entry)))) budget) scans settings (now (plan .entry)) (now (scratch .entry)) (minmax-reply r) (now (plan .exit)) (now (scratch .exit)) ⌝ }
+    requires { ⌜ Fit scans settings (now rates) (now distortions) (now weights) (length (now scratch)) × (scans ≤ length (now plan)) ⌝ }
+    requires { ⌜ ThriftyTotals (planning (table scans settings law (now rates) (now distortions) (now weights))) budget thriftiest ⌝ }
+    ensures { λ r. ⌜ Delivered (IsMinmaxPlan (planning (table scans settings law (now (rates .entry)) (now (distortions .entry)) (now (weights .entry)))) budget) scans settings (now (plan .entry)) (now (scratch .entry)) (minmax-reply r) (now (plan .exit)) (now (scratch .exit)) ⌝ }
 {
     let ceiling = least_ceiling(
         scans,
@@ -45,10 +46,29 @@ fn minmax_that_fits(
         number_to_cell(thriftiest.peak),
         rates,
         distortions,
+        weights,
         scratch,
     );
-    thrifty_pass(scans, settings, law, ceiling, rates, distortions, scratch);
-    let totals = finish(scans, settings, law, rates, distortions, plan, scratch);
+    thrifty_pass(
+        scans,
+        settings,
+        law,
+        ceiling,
+        rates,
+        distortions,
+        weights,
+        scratch,
+    );
+    let totals = finish(
+        scans,
+        settings,
+        law,
+        rates,
+        distortions,
+        weights,
+        plan,
+        scratch,
+    );
     MinmaxAnswer::Planned(MinmaxPlan {
         ceiling: cell_to_number(ceiling),
         totals,
@@ -63,13 +83,23 @@ fn sound_minmax(
     budget: u64,
     rates: &[u32],
     distortions: &[u32],
+    weights: &[u8],
     plan: &mut [u8],
     scratch: &mut [u8],
 ) -> MinmaxAnswer
-    requires { ⌜ Sound none (asking scans settings law (now rates) (now distortions) (length (now plan)) (length (now scratch))) ⌝ }
-    ensures { λ r. ⌜ MinmaxPromise (asking scans settings law (now (rates .entry)) (now (distortions .entry)) (length (now (plan .entry))) (length (now (scratch .entry)))) budget (now (plan .entry)) (now (scratch .entry)) r (now (plan .exit)) (now (scratch .exit)) ⌝ }
+    requires { ⌜ Sound none (asking scans settings law (now rates) (now distortions) (now weights) (length (now plan)) (length (now scratch))) ⌝ }
+    ensures { λ r. ⌜ MinmaxPromise (asking scans settings law (now (rates .entry)) (now (distortions .entry)) (now (weights .entry)) (length (now (plan .entry))) (length (now (scratch .entry)))) budget (now (plan .entry)) (now (scratch .entry)) r (now (plan .exit)) (now (scratch .exit)) ⌝ }
 {
-    let started = start(scans, settings, law, budget, rates, distortions, scratch);
+    let started = start(
+        scans,
+        settings,
+        law,
+        budget,
+        rates,
+        distortions,
+        weights,
+        scratch,
+    );
     match started {
         Started::Plan(thriftiest) => minmax_that_fits(
             scans,
@@ -79,6 +109,7 @@ fn sound_minmax(
             thriftiest,
             rates,
             distortions,
+            weights,
             plan,
             scratch,
         ),
@@ -93,10 +124,11 @@ pub fn minmax_plan(
     budget: u64,
     rates: &[u32],
     distortions: &[u32],
+    weights: &[u8],
     plan: &mut [u8],
     scratch: &mut [u8],
 ) -> MinmaxAnswer
-    ensures { λ r. ⌜ MinmaxPromise (asking scans settings law (now (rates .entry)) (now (distortions .entry)) (length (now (plan .entry))) (length (now (scratch .entry)))) budget (now (plan .entry)) (now (scratch .entry)) r (now (plan .exit)) (now (scratch .exit)) ⌝ }
+    ensures { λ r. ⌜ MinmaxPromise (asking scans settings law (now (rates .entry)) (now (distortions .entry)) (now (weights .entry)) (length (now (plan .entry))) (length (now (scratch .entry)))) budget (now (plan .entry)) (now (scratch .entry)) r (now (plan .exit)) (now (scratch .exit)) ⌝ }
 {
     let checked = check(
         scans,
@@ -105,6 +137,7 @@ pub fn minmax_plan(
         Stage::Passed,
         rates,
         distortions,
+        weights,
         plan.len(),
         scratch.len(),
     );
@@ -116,6 +149,7 @@ pub fn minmax_plan(
             budget,
             rates,
             distortions,
+            weights,
             plan,
             scratch,
         );

@@ -21,14 +21,34 @@ fn sound_multiplier(
     d: u64,
     rates: &[u32],
     distortions: &[u32],
+    weights: &[u8],
     plan: &mut [u8],
     scratch: &mut [u8],
 ) -> PlanAnswer
-    requires { ⌜ Sound (fourth-check n d) (asking scans settings law (now rates) (now distortions) (length (now plan)) (length (now scratch))) ⌝ }
-    ensures { λ r. ⌜ MultiplierPromise (asking scans settings law (now (rates .entry)) (now (distortions .entry)) (length (now (plan .entry))) (length (now (scratch .entry)))) n d (now (plan .entry)) (now (scratch .entry)) r (now (plan .exit)) (now (scratch .exit)) ⌝ }
+    requires { ⌜ Sound (fourth-check n d) (asking scans settings law (now rates) (now distortions) (now weights) (length (now plan)) (length (now scratch))) ⌝ }
+    ensures { λ r. ⌜ MultiplierPromise (asking scans settings law (now (rates .entry)) (now (distortions .entry)) (now (weights .entry)) (length (now (plan .entry))) (length (now (scratch .entry)))) n d (now (plan .entry)) (now (scratch .entry)) r (now (plan .exit)) (now (scratch .exit)) ⌝ }
 {
-    if multiplier_pass(scans, settings, law, n, d, rates, distortions, scratch) {
-        return PlanAnswer::Planned(finish(scans, settings, law, rates, distortions, plan, scratch));
+    if multiplier_pass(
+        scans,
+        settings,
+        law,
+        n,
+        d,
+        rates,
+        distortions,
+        weights,
+        scratch,
+    ) {
+        return PlanAnswer::Planned(finish(
+            scans,
+            settings,
+            law,
+            rates,
+            distortions,
+            weights,
+            plan,
+            scratch,
+        ));
     }
     close(false, scans, settings, plan, scratch);
     PlanAnswer::Refused(Refusal::NoSequence)
@@ -42,10 +62,11 @@ pub fn multiplier_plan(
     d: u64,
     rates: &[u32],
     distortions: &[u32],
+    weights: &[u8],
     plan: &mut [u8],
     scratch: &mut [u8],
 ) -> PlanAnswer
-    ensures { λ r. ⌜ MultiplierPromise (asking scans settings law (now (rates .entry)) (now (distortions .entry)) (length (now (plan .entry))) (length (now (scratch .entry)))) n d (now (plan .entry)) (now (scratch .entry)) r (now (plan .exit)) (now (scratch .exit)) ⌝ }
+    ensures { λ r. ⌜ MultiplierPromise (asking scans settings law (now (rates .entry)) (now (distortions .entry)) (now (weights .entry)) (length (now (plan .entry))) (length (now (scratch .entry)))) n d (now (plan .entry)) (now (scratch .entry)) r (now (plan .exit)) (now (scratch .exit)) ⌝ }
 {
     let fourth = unless(multiplier_outside(n, d), Refusal::Multiplier);
     let checked = check(
@@ -55,6 +76,7 @@ pub fn multiplier_plan(
         fourth,
         rates,
         distortions,
+        weights,
         plan.len(),
         scratch.len(),
     );
@@ -67,6 +89,7 @@ pub fn multiplier_plan(
             d,
             rates,
             distortions,
+            weights,
             plan,
             scratch,
         );

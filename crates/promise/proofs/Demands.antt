@@ -44,8 +44,8 @@ demand-answered-under {a} tests {B} m (planned o t v q e f g) =
     }
 
 -- .. and so under every law by its number
-pub demand-answered : (N Q law : ℕ) (rates distortions : List ℕ) (plan-room scratch-room : ℕ) {B : ℕ} {plan scratch plan′ scratch′ : List ℕ} (m : AveragePlan) →
-    AveragePromise (asking N Q law rates distortions plan-room scratch-room) B plan scratch (average-answer.Planned m) plan′ scratch′ →
-    Answered (asking N Q law rates distortions plan-room scratch-room) B m plan plan′
-demand-answered N Q law rates distortions plan-room scratch-room =
-    demand-answered-under {a = asking N Q law rates distortions plan-room scratch-room} (allows-law law)
+pub demand-answered : (N Q law : ℕ) (rates distortions weights : List ℕ) (plan-room scratch-room : ℕ) {B : ℕ} {plan scratch plan′ scratch′ : List ℕ} (m : AveragePlan) →
+    AveragePromise (asking N Q law rates distortions weights plan-room scratch-room) B plan scratch (average-answer.Planned m) plan′ scratch′ →
+    Answered (asking N Q law rates distortions weights plan-room scratch-room) B m plan plan′
+demand-answered N Q law rates distortions weights plan-room scratch-room =
+    demand-answered-under {a = asking N Q law rates distortions weights plan-room scratch-room} (allows-law law)

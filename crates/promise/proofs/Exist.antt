@@ -18,7 +18,7 @@ use Rattle.tables.specs.Legal.{AllLegal, LowestIllegal}
 use Rattle.tables.proofs.LawLaws.{tested?}
 use Rattle.tables.proofs.Listing.{table-finite}
 use Rattle.legal.proofs.LegalLaws.{lowest-or-all}
-use Rattle.checks.specs.Planning.{Asked, Sound, early, illegal, early-refusal, table-of, problem-of, fourth-check}
+use Rattle.checks.specs.Planning.{Asked, Sound, early, illegal, early-refusal, table-of, problem-of, weigh-of, fourth-check}
 use Rattle.walk.specs.declared.Totals.{Totals}
 use Rattle.promise.specs.declared.PlanAnswer.the-variants as plan-answer
 use Rattle.promise.specs.declared.MinmaxAnswer.the-variants as minmax-answer
@@ -72,7 +72,7 @@ module _ {A : Type 0} (reply-of : A → Reply) (refuse : Refusal → A) (refuses
         promised = no-sequence o n (refuses refusal.NoSequence) refl refl;
       }
 
-      by-cells : early-refusal further a ≡ none → ((k : ℕ) × LowestIllegal (a .rates) (a .distortions) k) ⊎ AllLegal (a .rates) (a .distortions) → SomeAnswer promise-of
+      by-cells : early-refusal further a ≡ none → ((k : ℕ) × LowestIllegal (weigh-of a) (a .rates) (a .distortions) k) ⊎ AllLegal (weigh-of a) (a .rates) (a .distortions) → SomeAnswer promise-of
       by-cells e (inl f) = record {
         answer = refuse (refusal.Cell (f .0));
         plan = plan;
@@ -82,7 +82,7 @@ module _ {A : Type 0} (reply-of : A → Reply) (refuse : Refusal → A) (refuses
       by-cells e (inr l) = by-allowed (record { passed = e; legal = l }) allowed?
 
       by-early : (o : Option Refusal) → early-refusal further a ≡ o → SomeAnswer promise-of
-      by-early none e = by-cells e (lowest-or-all (a .rates) (a .distortions))
+      by-early none e = by-cells e (lowest-or-all (weigh-of a) (a .rates) (a .distortions))
       by-early (some r) e = record {
         answer = refuse r;
         plan = plan;

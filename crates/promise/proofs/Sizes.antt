@@ -1,4 +1,4 @@
--- No call gives 5 or 6 where its tables have their exact length and its buffers are long enough. Assumes nothing.
+-- No call gives 5 or 6 where its tables and weights have their exact length and its buffers are long enough. Assumes nothing.
 use mathlib.Core.Path.{_≡_}
 use mathlib.Core.Bool.{Bool, true, false}
 use mathlib.Core.Option.{Option}
@@ -14,15 +14,16 @@ use Rattle.tables.specs.Refusals.{Reply, numberOf}
 use Rattle.tables.specs.Limits.{most-scans}
 use Rattle.tables.specs.Tables.{cells, scratch-need}
 use Rattle.checks.specs.Checks.{when}
-use Rattle.checks.specs.Planning.{Asked, Unsound, early, illegal, early-refusal, range-checks, scans-out, settings-out, lengths-out, buffers-short, multiplier-out, fourth-check}
+use Rattle.checks.specs.Planning.{Asked, Unsound, early, illegal, early-refusal, range-checks, scans-out, settings-out, buffers-short, multiplier-out, fourth-check}
 use Rattle.checks.proofs.GiveLaws.{Gives, given, gives-when, gives-first}
-use Rattle.checks.proofs.PlanningLaws.{size-checks}
+use Rattle.checks.proofs.PlanningLaws.{sizes-out, size-checks}
 use Rattle.promise.specs.Promise.{Promise, unsound, no-sequence, none-within, planned}
 
--- the tables and the lent buffers of a call are of the sizes that it needs
+-- the tables, the weights and the lent buffers of a call are of the sizes that it needs
 pub record SizesFit (a : Asked) : Type 0 where
   pub rates-long : length (a .rates) ≡ cells (a .N) (a .Q)
   pub distortions-long : length (a .distortions) ≡ cells (a .N) (a .Q)
+  pub weights-long : length (a .weights) ≡ a .N
   pub plan-room : a .N ≤ a .plan
   pub scratch-room : scratch-need (a .N) (a .Q) ≤ a .scratch
 
@@ -42,8 +43,8 @@ pub above-six : {k : ℕ} → 7 ≤ k → NotFiveOrSix k
 above-six h = (λ z. omega arith, λ z. omega arith)
 
 -- where the sizes fit, the checks 5 and 6 pass
-lengths-pass : {a : Asked} → SizesFit a → lengths-out (a .N) (a .Q) (a .rates) (a .distortions) ≡ false
-lengths-pass {a} s = rw (eq-eqb _ _ (s .rates-long), eq-eqb _ _ (s .distortions-long))
+lengths-pass : {a : Asked} → SizesFit a → sizes-out a ≡ false
+lengths-pass {a} s = rw (eq-eqb _ _ (s .rates-long), eq-eqb _ _ (s .distortions-long), eq-eqb _ _ (s .weights-long))
 
 buffers-pass : {a : Asked} → SizesFit a → buffers-short (a .N) (a .Q) (a .plan) (a .scratch) ≡ false
 buffers-pass {a} s = rw (le-ltb _ _ (s .plan-room), le-ltb _ _ (s .scratch-room))
@@ -66,7 +67,7 @@ first-not-by-size {further} {a} f s (early e) =
           (
             f,
             (
-              gives-not NotBySize (lengths-out (a .N) (a .Q) (a .rates) (a .distortions)) refusal.Lengths (lengths-pass s),
+              gives-not NotBySize (sizes-out a) refusal.Lengths (lengths-pass s),
               (gives-not NotBySize (buffers-short (a .N) (a .Q) (a .plan) (a .scratch)) refusal.Buffer (buffers-pass s), tt),
             ),
           ),

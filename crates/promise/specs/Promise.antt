@@ -27,22 +27,29 @@ wiped a scratch = replicate (scratch-need (a .N) (a .Q)) 0 ++ drop (scratch-need
 abbrev pub handed : Asked → List ℕ → List ℕ → List ℕ
 handed a s plan = s ++ drop (a .N) plan
 
--- `further` is the check that the call has between 3 and 5, `within` is what the limit asks of a sequence, `Plan s v` says that s is the plan and v the values of the answer; plan and scratch are
--- the lent buffers before the call, plan′ and scratch′ after it.
-pub data Promise (further : Option Refusal) (a : Asked) (within : List ℕ → Type 0) (Plan : List ℕ → List ℕ → Type 0)
-    (plan scratch : List ℕ) (reply : Reply) (plan′ scratch′ : List ℕ) : Type 0 where
+-- Of a call on the question a: `Refused r` says that r is the refusal of the first of its checks 1 to 7 that fails, `Passed` that none does; P
+-- is its problem, `within` what the limit asks of a sequence, `Plan s v` that s is the plan and v the values of the answer; plan and scratch
+-- are the lent buffers before the call, plan′ and scratch′ after it.
+pub data PromiseOver (a : Asked) (Refused : Refusal → Type 0) (Passed : Type 0) (P : Problem) (within : List ℕ → Type 0)
+    (Plan : List ℕ → List ℕ → Type 0) (plan scratch : List ℕ) (reply : Reply) (plan′ scratch′ : List ℕ) : Type 0 where
   -- "On refusals 1 to 7 all buffers stay the same."
-  unsound : {r : Refusal} → Unsound further a r → reply ≡ refused r → plan′ ≡ plan → scratch′ ≡ scratch →
-      Promise further a within Plan plan scratch reply plan′ scratch′
+  unsound : {r : Refusal} → Refused r → reply ≡ refused r → plan′ ≡ plan → scratch′ ≡ scratch →
+      PromiseOver a Refused Passed P within Plan plan scratch reply plan′ scratch′
   -- 8, "no allowed sequence, whatever the limit"; "on 8 and 9 the plan buffer stays the same"
-  no-sequence : Sound further a → NoneAllowed (problem-of a) → reply ≡ refused refusal.NoSequence → plan′ ≡ plan → scratch′ ≡ wiped a scratch →
-      Promise further a within Plan plan scratch reply plan′ scratch′
+  no-sequence : Passed → NoneAllowed P → reply ≡ refused refusal.NoSequence → plan′ ≡ plan → scratch′ ≡ wiped a scratch →
+      PromiseOver a Refused Passed P within Plan plan scratch reply plan′ scratch′
   -- 9, "allowed sequences exist, none within ceiling or budget"
-  none-within : Sound further a → NoneWithin (problem-of a) within → reply ≡ refused refusal.NoneWithin → plan′ ≡ plan →
-      scratch′ ≡ wiped a scratch → Promise further a within Plan plan scratch reply plan′ scratch′
+  none-within : Passed → NoneWithin P within → reply ≡ refused refusal.NoneWithin → plan′ ≡ plan → scratch′ ≡ wiped a scratch →
+      PromiseOver a Refused Passed P within Plan plan scratch reply plan′ scratch′
   -- "On success only the first N bytes of the plan buffer may differ."
-  planned : Sound further a → (s v : List ℕ) → Plan s v → reply ≡ answered v → plan′ ≡ handed a s plan → scratch′ ≡ wiped a scratch →
-      Promise further a within Plan plan scratch reply plan′ scratch′
+  planned : Passed → (s v : List ℕ) → Plan s v → reply ≡ answered v → plan′ ≡ handed a s plan → scratch′ ≡ wiped a scratch →
+      PromiseOver a Refused Passed P within Plan plan scratch reply plan′ scratch′
+
+-- .. with the checks and the problem that a question has; `further` is the check that the call has between 3 and 5
+abbrev pub Promise : Option Refusal → (a : Asked) → (within : List ℕ → Type 0) → (Plan : List ℕ → List ℕ → Type 0) → (plan scratch : List ℕ) → Reply →
+    (plan′ scratch′ : List ℕ) → Type 0
+Promise further a within Plan plan scratch reply plan′ scratch′ =
+    PromiseOver a (Unsound further a) (Sound further a) (problem-of a) within Plan plan scratch reply plan′ scratch′
 
 -- "An answer holds rate, distortion and peak, for minmax also X, for average also n, d and F."
 abbrev pub totals : Problem → List ℕ → List ℕ

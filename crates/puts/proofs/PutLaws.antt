@@ -43,28 +43,30 @@ pub length-kept : (a : List ℕ) {b : List ℕ} (at : ℕ) (m : List ℕ) → b 
 length-kept a at m e = ap length e ∙ length-sets a at m
 
 -- the fields of block 0, one after the other
-pub header-stored : (version : ℕ) (f : Fields) (d a b c e g h i j k l m n o p q : List ℕ) → a ≡ sets d 0 (le 4 0) → b ≡ sets a 4 (letters version)
+pub header-stored : (version : ℕ) (f : Fields) (d a b c e g h i j k l m n o p q r : List ℕ)
+    → a ≡ sets d 0 (le 4 0) → b ≡ sets a 4 (letters version)
     → c ≡ sets b 8 (le 2 (f .scans)) → e ≡ sets c 10 (le 1 (f .settings)) → g ≡ sets e 11 (le 1 (f .law)) → h ≡ sets g 12 (le 1 (f .kind))
-    → i ≡ sets h 13 (replicate 3 0) → j ≡ sets i 16 (le 8 (f .budget)) → k ≡ sets j 24 (le 4 (f .n)) → l ≡ sets k 28 (le 4 (f .d))
-    → m ≡ sets l 32 (le 4 (f .rate .0)) → n ≡ sets m 36 (le 4 (f .distortion .0)) → o ≡ sets n 40 (le 4 (f .peak))
-    → p ≡ sets o 44 (le 4 (f .floor .0)) → q ≡ sets p 48 (replicate 460 0) → Stored d 0 (header version f) 508 q
+    → i ≡ sets h 13 (le 1 (f .weighted)) → j ≡ sets i 14 (replicate 2 0) → k ≡ sets j 16 (le 8 (f .budget)) → l ≡ sets k 24 (le 4 (f .n))
+    → m ≡ sets l 28 (le 4 (f .d)) → n ≡ sets m 32 (le 4 (f .rate .0)) → o ≡ sets n 36 (le 4 (f .distortion .0)) → p ≡ sets o 40 (le 4 (f .peak))
+    → q ≡ sets p 44 (le 4 (f .floor .0)) → r ≡ sets q 48 (replicate 460 0) → Stored d 0 (header version f) 508 r
 unfolding header
-header-stored version f d a b c e g h i j k l m n o p q e0 e1 e2 e3 e4 e5 e6 e7 e8 e9 e10 e11 e12 e13 e14 =
+header-stored version f d a b c e g h i j k l m n o p q r e0 e1 e2 e3 e4 e5 e6 e7 e8 e9 e10 e11 e12 e13 e14 e15 =
     let s0 : Stored d 0 (le 4 0) 4 a = record { so = e0; long = length-le 4 0 } in
     let s1 = next {k = 4} 4 (letters version) s0 e1 refl refl in
     let s2 = next 8 (le 2 (f .scans)) s1 e2 (length-le 2 _) refl in
     let s3 = next 10 (le 1 (f .settings)) s2 e3 (length-le 1 _) refl in
     let s4 = next 11 (le 1 (f .law)) s3 e4 (length-le 1 _) refl in
     let s5 = next 12 (le 1 (f .kind)) s4 e5 (length-le 1 _) refl in
-    let s6 = next 13 (replicate 3 0) s5 e6 (length-replicate {A = ℕ} 3 0) refl in
-    let s7 = next 16 (le 8 (f .budget)) s6 e7 (length-le 8 _) refl in
-    let s8 = next 24 (le 4 (f .n)) s7 e8 (length-le 4 _) refl in
-    let s9 = next 28 (le 4 (f .d)) s8 e9 (length-le 4 _) refl in
-    let s10 = next 32 (le 4 (f .rate .0)) s9 e10 (length-le 4 _) refl in
-    let s11 = next 36 (le 4 (f .distortion .0)) s10 e11 (length-le 4 _) refl in
-    let s12 = next 40 (le 4 (f .peak)) s11 e12 (length-le 4 _) refl in
-    let s13 = next 44 (le 4 (f .floor .0)) s12 e13 (length-le 4 _) refl in
-    next 48 (replicate 460 0) s13 e14 (length-replicate {A = ℕ} 460 0) refl
+    let s6 = next 13 (le 1 (f .weighted)) s5 e6 (length-le 1 _) refl in
+    let s7 = next 14 (replicate 2 0) s6 e7 (length-replicate {A = ℕ} 2 0) refl in
+    let s8 = next 16 (le 8 (f .budget)) s7 e8 (length-le 8 _) refl in
+    let s9 = next 24 (le 4 (f .n)) s8 e9 (length-le 4 _) refl in
+    let s10 = next 28 (le 4 (f .d)) s9 e10 (length-le 4 _) refl in
+    let s11 = next 32 (le 4 (f .rate .0)) s10 e11 (length-le 4 _) refl in
+    let s12 = next 36 (le 4 (f .distortion .0)) s11 e12 (length-le 4 _) refl in
+    let s13 = next 40 (le 4 (f .peak)) s12 e13 (length-le 4 _) refl in
+    let s14 = next 44 (le 4 (f .floor .0)) s13 e14 (length-le 4 _) refl in
+    next 48 (replicate 460 0) s14 e15 (length-replicate {A = ℕ} 460 0) refl
 
 -- the number of data block b, its entries and its check
 pub data-stored : (version : ℕ) (e : ℕ → ℕ) (b : ℕ) (d numbered filled after : List ℕ) → 512 * suc b + 512 ≤ length d

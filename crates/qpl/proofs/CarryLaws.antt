@@ -15,7 +15,7 @@ use Rattle.tables.specs.Limits.{most-scans, most-settings}
 use Rattle.tables.specs.Tables.{cells, scratch-need}
 use Rattle.checks.specs.Planning.{Asked, Unsound, early, illegal, channels-out, scans-out, settings-out}
 use Rattle.checks.proofs.GiveLaws.{Gives, given, gives-when, gives-else, gives-first, gives-found}
-use Rattle.checks.proofs.PlanningLaws.{early-gives, admitted, lengths-exact, sound-fit, sound-plan}
+use Rattle.checks.proofs.PlanningLaws.{early-gives, admitted, sizes-exact, sound-fit, sound-plan}
 use Rattle.rules.proofs.FieldLaws.{rules-give}
 use Rattle.tables.specs.Law.{allows, law-out}
 use Rattle.rules.specs.Rules.{header-rules}
@@ -90,7 +90,7 @@ unsound-light {further} {a} f (illegal e l) =
     let p = admitted {further = further} {a = a} e in
     let n = in-range {most = most-scans} {x = a .N} (p .scans) in
     let q = in-range {most = most-settings} {x = a .Q} (p .settings) in
-    let w = lengths-exact (a .N) (a .Q) (a .rates) (a .distortions) (p .lengths) in
+    let w = sizes-exact a (p .lengths) in
     omega (arith, l .inside, w .0, cells-small {N = a .N} {Q = a .Q} (n .1) (q .1))
 
 refusal-tellable : {reply : Reply} {n : ℕ} (r : Refusal) → reply ≡ refused r → carriedBy r < 2 ^ 32 → Tellable reply n

@@ -12,7 +12,7 @@ use Rattle.tables.specs.declared.refusal.Refusal.{Refusal}
 use Rattle.tables.specs.declared.refusal.Refusal.the-variants as refusal
 use Rattle.tables.specs.Refusals.{Reply, refused}
 use Rattle.tables.specs.Limits.{most-scans, most-settings}
-use Rattle.tables.specs.Legal.{cell-illegal}
+use Rattle.tables.specs.Legal.{no-weights, cell-illegal}
 use Rattle.tables.proofs.CellLaws.{cells-small}
 use Rattle.checks.specs.Checks.{first-refusal, or-else, or-answer, first-from, found, when}
 use Rattle.checks.specs.Planning.{scans-out, settings-out, lengths-out}
@@ -40,8 +40,8 @@ export-light N Q rates distortions room =
     let q = in-range {most = most-settings} {x = Q} (none-when (settings-out Q) refusal.Settings f) in
     let w = lengths-exact N Q rates distortions (none-when (lengths-out N Q rates distortions) refusal.Lengths g) in
     let c = cells-small {N = N} {Q = Q} (n .1) (q .1) in
-    gives-else Little (found refusal.Cell (first-from (cell-illegal rates distortions) 0 (length rates))) _
-    (gives-found Little (length rates) refusal.Cell (cell-illegal rates distortions) 0 (λ i h. omega (arith, w .0, c))) (λ h.
+    gives-else Little (found refusal.Cell (first-from (cell-illegal no-weights rates distortions) 0 (length rates))) _
+    (gives-found Little (length rates) refusal.Cell (cell-illegal no-weights rates distortions) 0 (λ i h. omega (arith, w .0, c))) (λ h.
     gives-else Little (when (ltb room (length (export-text N Q rates distortions))) refusal.Buffer) none
     (gives-when Little (ltb room (length (export-text N Q rates distortions))) refusal.Buffer (omega arith)) (λ z. tt)))))
 

@@ -37,14 +37,14 @@ handed-front room n t l h e =
     ∙ ap (λ (x : List ℕ). t ++ x) (sym (drop-append-le n (take room l) (drop room l) h) ∙ ap (drop n) (take-append-drop room l))
 
 -- a planning call
-promise-whole : {further : Option Refusal} {lawless : Bool} {law : Law} {N Q S : ℕ} {R D : List ℕ} {within : List ℕ → Type 0} {Plan : List ℕ → List ℕ → Type 0}
+promise-whole : {further : Option Refusal} {lawless : Bool} {law : Law} {N Q S : ℕ} {R D W : List ℕ} {within : List ℕ → Type 0} {Plan : List ℕ → List ℕ → Type 0}
     {scratch p s : List ℕ} {reply : Reply} {m : ℕ} (room : ℕ) (plan : List ℕ) →
-    Promise further (asking-under lawless law N Q R D (length (take room plan)) S) within Plan (take room plan) scratch reply p s →
-    length (take room plan) ≡ m → Promise further (asking-under lawless law N Q R D m S) within Plan plan scratch reply (p ++ drop room plan) s
-promise-whole {further} {lawless} {law} {N} {Q} {S} {R} {D} {within} {Plan} {scratch} {p} {s} {reply} room plan promise e = rw e at (whole promise)
+    Promise further (asking-under lawless law N Q R D W (length (take room plan)) S) within Plan (take room plan) scratch reply p s →
+    length (take room plan) ≡ m → Promise further (asking-under lawless law N Q R D W m S) within Plan plan scratch reply (p ++ drop room plan) s
+promise-whole {further} {lawless} {law} {N} {Q} {S} {R} {D} {W} {within} {Plan} {scratch} {p} {s} {reply} room plan promise e = rw e at (whole promise)
   where
-    whole : Promise further (asking-under lawless law N Q R D (length (take room plan)) S) within Plan (take room plan) scratch reply p s →
-        Promise further (asking-under lawless law N Q R D (length (take room plan)) S) within Plan plan scratch reply (p ++ drop room plan) s
+    whole : Promise further (asking-under lawless law N Q R D W (length (take room plan)) S) within Plan (take room plan) scratch reply p s →
+        Promise further (asking-under lawless law N Q R D W (length (take room plan)) S) within Plan plan scratch reply (p ++ drop room plan) s
     whole (unsound {r = r} u e f g) = unsound {r = r} u e (same-front room plan f) g
     whole (no-sequence o n e f g) = no-sequence o n e (same-front room plan f) g
     whole (none-within o n e f g) = none-within o n e (same-front room plan f) g
@@ -56,9 +56,9 @@ front-length {room} l h = length-take-le room l (h .1) ∙ h .0
 
 -- A planning call over the room that is lent: `given` is its answer, and `reply` is told of it.
 module _ {A : Type 0} (reply-of : A → Reply) (given : A) (need : ℕ) (answer plan : List ℕ) {further : Option Refusal} {lawless : Bool} {law : Law} {N Q S room : ℕ}
-    {R D scratch p s : List ℕ} {within : List ℕ → Type 0} {Plan : List ℕ → List ℕ → Type 0} {reply : Reply}
+    {R D W scratch p s : List ℕ} {within : List ℕ → Type 0} {Plan : List ℕ → List ℕ → Type 0} {reply : Reply}
     (lends : (room ≡ lent need (length answer) (length plan)) × (room ≤ length plan))
-    (promise : Promise further (asking-under lawless law N Q R D (length (take room plan)) S) within Plan (take room plan) scratch (reply-of given) p s)
+    (promise : Promise further (asking-under lawless law N Q R D W (length (take room plan)) S) within Plan (take room plan) scratch (reply-of given) p s)
     (said : reply ≡ reply-of given) where
   -- it can be told
   pub planning-tellable : Gives Little further → ((t v : List ℕ) → Plan t v → 8 * length v ≤ need) → Tellable reply (length answer)
@@ -66,7 +66,7 @@ module _ {A : Type 0} (reply-of : A → Reply) (given : A) (need : ℕ) (answer 
 
   -- and once it is told, the call over the whole buffer has kept its promise
   pub planning-tells : {word : ℕ} {answer′ : List ℕ} → Told reply answer word answer′ →
-      Tells reply-of (λ a. Promise further (asking-under lawless law N Q R D (lent need (length answer) (length plan)) S) within Plan plan scratch (reply-of a)
+      Tells reply-of (λ a. Promise further (asking-under lawless law N Q R D W (lent need (length answer) (length plan)) S) within Plan plan scratch (reply-of a)
       (p ++ drop room plan) s) answer word answer′
   planning-tells {word} {answer′} told = record {
     given = given;

@@ -1,7 +1,7 @@
 -- What the surface settles: equal inputs give one word and one content of every buffer; an answer buffer that is too short is refused with 6
 -- in its place among the checks; and a word is never two refusals. Assumes nothing.
 use mathlib.Core.Path.{_≡_, refl, sym, ap, _∙_}
-use mathlib.Core.Bool.{Bool, true, false}
+use mathlib.Core.Bool.{Bool, true, false, _||_}
 use mathlib.Core.Option.{Option, none, some}
 use mathlib.Core.List.{List}
 use Prim.Native.Nat.{ℕ, _+_, _*_, _/_, _%_, _≤_, _<_, _^_}
@@ -16,7 +16,7 @@ use Rattle.tables.specs.Refusals.{Reply, refused, numberOf, carriedBy}
 use Rattle.checks.proofs.CheckLaws.{all-pass}
 use Rattle.checks.specs.Checks.{first-refusal, when, found, or-else}
 use mathlib.Core.List.{[], _∷_, _++_}
-use Rattle.checks.specs.Planning.{range-checks, Asked, early-refusal, scans-out, settings-out, lengths-out, buffers-short, asking}
+use Rattle.checks.specs.Planning.{range-checks, Asked, early-refusal, scans-out, settings-out, lengths-out, weights-out, buffers-short, asking}
 use Rattle.tables.specs.Law.{law-out}
 use Rattle.checks.proofs.RangeLaws.{in-range}
 use Rattle.laws.proofs.Tests.{never, neither}
@@ -48,33 +48,33 @@ tells-once reply-of answer settled x y =
     (w .0, w .1, u .1, u .2)
 
 -- what a call is asked
-abbrev pub asked-of : (need N Q law : ℕ) (rates distortions plan scratch answer : List ℕ) → Asked
-asked-of need N Q law rates distortions plan scratch answer =
-    asking N Q law rates distortions (lent need (length answer) (length plan)) (length scratch)
+abbrev pub asked-of : (need N Q law : ℕ) (rates distortions weights plan scratch answer : List ℕ) → Asked
+asked-of need N Q law rates distortions weights plan scratch answer =
+    asking N Q law rates distortions weights (lent need (length answer) (length plan)) (length scratch)
 
 -- the theorems, one for each call
-module _ (N Q law : ℕ) (rates distortions plan scratch answer : List ℕ) {word word′ : ℕ} {t t′ p p′ s s′ : List ℕ} where
+module _ (N Q law : ℕ) (rates distortions weights plan scratch answer : List ℕ) {word word′ : ℕ} {t t′ p p′ s s′ : List ℕ} where
   pub ceiling-tells-once : (X : ℕ) →
-      Tells plan-reply (λ r. CeilingPromise (asked-of 24 N Q law rates distortions plan scratch answer) X plan scratch r p s) answer word t →
-      Tells plan-reply (λ r. CeilingPromise (asked-of 24 N Q law rates distortions plan scratch answer) X plan scratch r p′ s′) answer word′ t′ →
+      Tells plan-reply (λ r. CeilingPromise (asked-of 24 N Q law rates distortions weights plan scratch answer) X plan scratch r p s) answer word t →
+      Tells plan-reply (λ r. CeilingPromise (asked-of 24 N Q law rates distortions weights plan scratch answer) X plan scratch r p′ s′) answer word′ t′ →
       AllSame word word′ t t′ p p′ s s′
   ceiling-tells-once X = tells-once plan-reply answer (λ r r′. ceiling-settled {X = X} r r′)
 
   pub multiplier-tells-once : (n d : ℕ) →
-      Tells plan-reply (λ r. MultiplierPromise (asked-of 24 N Q law rates distortions plan scratch answer) n d plan scratch r p s) answer word t →
-      Tells plan-reply (λ r. MultiplierPromise (asked-of 24 N Q law rates distortions plan scratch answer) n d plan scratch r p′ s′) answer word′ t′ →
+      Tells plan-reply (λ r. MultiplierPromise (asked-of 24 N Q law rates distortions weights plan scratch answer) n d plan scratch r p s) answer word t →
+      Tells plan-reply (λ r. MultiplierPromise (asked-of 24 N Q law rates distortions weights plan scratch answer) n d plan scratch r p′ s′) answer word′ t′ →
       AllSame word word′ t t′ p p′ s s′
   multiplier-tells-once n d = tells-once plan-reply answer (λ r r′. multiplier-settled n d r r′)
 
   pub minmax-tells-once : (B : ℕ) →
-      Tells minmax-reply (λ r. MinmaxPromise (asked-of 32 N Q law rates distortions plan scratch answer) B plan scratch r p s) answer word t →
-      Tells minmax-reply (λ r. MinmaxPromise (asked-of 32 N Q law rates distortions plan scratch answer) B plan scratch r p′ s′) answer word′ t′ →
+      Tells minmax-reply (λ r. MinmaxPromise (asked-of 32 N Q law rates distortions weights plan scratch answer) B plan scratch r p s) answer word t →
+      Tells minmax-reply (λ r. MinmaxPromise (asked-of 32 N Q law rates distortions weights plan scratch answer) B plan scratch r p′ s′) answer word′ t′ →
       AllSame word word′ t t′ p p′ s s′
   minmax-tells-once B = tells-once minmax-reply answer (λ r r′. minmax-settled {B = B} r r′)
 
   pub average-tells-once : (B : ℕ) →
-      Tells average-reply (λ r. AveragePromise (asked-of 48 N Q law rates distortions plan scratch answer) B plan scratch r p s) answer word t →
-      Tells average-reply (λ r. AveragePromise (asked-of 48 N Q law rates distortions plan scratch answer) B plan scratch r p′ s′) answer word′ t′ →
+      Tells average-reply (λ r. AveragePromise (asked-of 48 N Q law rates distortions weights plan scratch answer) B plan scratch r p s) answer word t →
+      Tells average-reply (λ r. AveragePromise (asked-of 48 N Q law rates distortions weights plan scratch answer) B plan scratch r p′ s′) answer word′ t′ →
       AllSame word word′ t t′ p p′ s s′
   average-tells-once B = tells-once average-reply answer (λ r r′. average-settled {B = B} r r′)
 
@@ -96,20 +96,20 @@ short-answer-read file answer room short = rw short
     rw (lt-ltb 0 (fields-of file .scans) (omega (arith, n .0))) refl))))
 
 -- the checks of a planning call whose answer buffer is too short: 1 to 5, and then 6
-abbrev pub short-checks : Option Refusal → (N Q law : ℕ) (rates distortions : List ℕ) → List (Option Refusal)
-short-checks further N Q law rates distortions =
-    range-checks most-scans N Q (law-out law) ++ (further ∷ when (lengths-out N Q rates distortions) refusal.Lengths ∷ some refusal.Buffer ∷ [])
+abbrev pub short-checks : Option Refusal → (N Q law : ℕ) (rates distortions weights : List ℕ) → List (Option Refusal)
+short-checks further N Q law rates distortions weights =
+    range-checks most-scans N Q (law-out law) ++ (further ∷ when (lengths-out N Q rates distortions || weights-out N weights) refusal.Lengths ∷ some refusal.Buffer ∷ [])
 
 -- A planning call then gives the first of 1 to 5, and else 6.
-pub short-answer-plan : (further : Option Refusal) (N Q law : ℕ) (rates distortions : List ℕ) (need answer room scratch : ℕ) → ltb answer need ≡ true →
-    early-refusal further (asking N Q law rates distortions (lent need answer room) scratch)
-    ≡ first-refusal (short-checks further N Q law rates distortions)
+pub short-answer-plan : (further : Option Refusal) (N Q law : ℕ) (rates distortions weights : List ℕ) (need answer room scratch : ℕ) → ltb answer need ≡ true →
+    early-refusal further (asking N Q law rates distortions weights (lent need answer room) scratch)
+    ≡ first-refusal (short-checks further N Q law rates distortions weights)
 unfolding early-refusal
-short-answer-plan further N Q law rates distortions need answer room scratch short = rw short (of (scans-out N) (in-range {most = most-scans} {x = N}))
+short-answer-plan further N Q law rates distortions weights need answer room scratch short = rw short (of (scans-out N) (in-range {most = most-scans} {x = N}))
   where
     later : Bool → List (Option Refusal)
     later b =
-        when (settings-out Q) refusal.Settings ∷ when (law-out law) refusal.StepLaw ∷ further ∷ when (lengths-out N Q rates distortions) refusal.Lengths
+        when (settings-out Q) refusal.Settings ∷ when (law-out law) refusal.StepLaw ∷ further ∷ when (lengths-out N Q rates distortions || weights-out N weights) refusal.Lengths
         ∷ when b refusal.Buffer ∷ []
 
     -- no room is short of a scan
@@ -119,10 +119,10 @@ short-answer-plan further N Q law rates distortions need answer room scratch sho
     of false h = rw (lt-ltb 0 N (omega (arith, h refl .0))) refl
 
 -- so it is refused
-pub short-answer-refused : (further : Option Refusal) (N Q law : ℕ) (rates distortions : List ℕ) (need answer room scratch : ℕ) → ltb answer need ≡ true →
-    early-refusal further (asking N Q law rates distortions (lent need answer room) scratch) ≡ none → ⊥
-short-answer-refused further N Q law rates distortions need answer room scratch short e =
-    let p = all-pass (short-checks further N Q law rates distortions) (sym (short-answer-plan further N Q law rates distortions need answer room scratch short) ∙ e) in
+pub short-answer-refused : (further : Option Refusal) (N Q law : ℕ) (rates distortions weights : List ℕ) (need answer room scratch : ℕ) → ltb answer need ≡ true →
+    early-refusal further (asking N Q law rates distortions weights (lent need answer room) scratch) ≡ none → ⊥
+short-answer-refused further N Q law rates distortions weights need answer room scratch short e =
+    let p = all-pass (short-checks further N Q law rates distortions weights) (sym (short-answer-plan further N Q law rates distortions weights need answer room scratch short) ∙ e) in
     let z : some refusal.Buffer ≡ none = p .1 .1 .1 .1 .1 .0 in
     never cc
 

@@ -34,8 +34,8 @@ pub record Tells {A : Type 0} (reply-of : A → Reply) (Kept : A → Type 0) (an
   pub told : Told (reply-of given) answer word answer′
 
 -- the writer's fields from its numbers
-abbrev pub fields-told : (scans settings law kind budget n d rate distortion peak floor : ℕ) → Fields
-fields-told scans settings law kind budget n d rate distortion peak floor = record {
+abbrev pub fields-told : (scans settings law kind budget n d rate distortion peak floor weighted : ℕ) → Fields
+fields-told scans settings law kind budget n d rate distortion peak floor weighted = record {
   scans = scans;
   settings = settings;
   law = law;
@@ -47,4 +47,5 @@ fields-told scans settings law kind budget n d rate distortion peak floor = reco
   distortion = record { 0 = distortion };
   peak = peak;
   floor = record { 0 = floor };
+  weighted = weighted;
 }

@@ -43,7 +43,7 @@ ghost use Rattle.telling.specs.Parts.{«most-values», «answer-reply»};
 ghost use Rattle.qpl.specs.Surface.{Tells, «read-bytes», «room-told», «export-told», «fields-told»};
 
 // What the reader's answer takes, the longest.
-const READ_BYTES: usize = 96;
+const READ_BYTES: usize = 104;
 
 // The room question, with the answer buffer as the last thing asked for.
 fn room_told(channels: u64, scans: u64, settings: u64, answer: usize) -> Answer
@@ -133,7 +133,7 @@ pub extern "C" fn qpl_export(
     tell(told, answer)
 }
 
-// scans, settings, law, kind, budget, n, d, rate, distortion, peak, floor, version
+// scans, settings, law, kind, budget, n, d, rate, distortion, peak, floor, version, weighted
 #[no_mangle]
 pub extern "C" fn qpl_read(file: &[u8], settings: &mut [u8], answer: &mut [u8]) -> u64
     ensures { λ r. ⌜ Told (read-of (now (file .entry)) (Lent read-bytes (length (now (answer .entry))) (length (now (settings .entry))))) (now (answer .entry)) r (now (answer .exit)) ⌝ }
@@ -158,11 +158,12 @@ pub extern "C" fn qpl_write(
     distortion: u64,
     peak: u64,
     floor: u64,
+    weighted: u64,
     plan: &[u8],
     file: &mut [u8],
 ) -> u64
-    ensures { λ r. ⌜ r ≡ word-of (write-of (fields-told scans settings law kind budget n d rate distortion peak floor) (now (plan .entry)) (length (now (file .entry)))) ⌝ }
-    ensures { λ _. ⌜ now (file .exit) ≡ file-after (write-refusal (fields-told scans settings law kind budget n d rate distortion peak floor) (now (plan .entry)) (length (now (file .entry)))) (fields-told scans settings law kind budget n d rate distortion peak floor) (now (plan .entry)) (now (file .entry)) ⌝ }
+    ensures { λ r. ⌜ r ≡ word-of (write-of (fields-told scans settings law kind budget n d rate distortion peak floor weighted) (now (plan .entry)) (length (now (file .entry)))) ⌝ }
+    ensures { λ _. ⌜ now (file .exit) ≡ file-after (write-refusal (fields-told scans settings law kind budget n d rate distortion peak floor weighted) (now (plan .entry)) (length (now (file .entry)))) (fields-told scans settings law kind budget n d rate distortion peak floor weighted) (now (plan .entry)) (now (file .entry)) ⌝ }
 {
     let fields = Fields {
         scans,
@@ -176,6 +177,7 @@ pub extern "C" fn qpl_write(
         distortion: Dist(distortion),
         peak,
         floor: Dist(floor),
+        weighted,
     };
     let told = write_plan(fields, plan, file);
     match told {
@@ -193,11 +195,12 @@ pub extern "C" fn qpl_ceiling(
     ceiling: u32,
     rates: &[u32],
     distortions: &[u32],
+    weights: &[u8],
     plan: &mut [u8],
     scratch: &mut [u8],
     answer: &mut [u8],
 ) -> u64
-    ensures { λ r. ⌜ Tells plan-reply (λ a. CeilingPromise (asking scans settings law (now (rates .entry)) (now (distortions .entry)) (Lent 24 (length (now (answer .entry))) (length (now (plan .entry)))) (length (now (scratch .entry)))) ceiling (now (plan .entry)) (now (scratch .entry)) a (now (plan .exit)) (now (scratch .exit))) (now (answer .entry)) r (now (answer .exit)) ⌝ }
+    ensures { λ r. ⌜ Tells plan-reply (λ a. CeilingPromise (asking scans settings law (now (rates .entry)) (now (distortions .entry)) (now (weights .entry)) (Lent 24 (length (now (answer .entry))) (length (now (plan .entry)))) (length (now (scratch .entry)))) ceiling (now (plan .entry)) (now (scratch .entry)) a (now (plan .exit)) (now (scratch .exit))) (now (answer .entry)) r (now (answer .exit)) ⌝ }
 {
     let room = lent(24, answer.len(), plan.len());
     let told = ceiling_plan(
@@ -207,6 +210,7 @@ pub extern "C" fn qpl_ceiling(
         ceiling,
         rates,
         distortions,
+        weights,
         &mut plan[..room],
         scratch,
     );
@@ -223,11 +227,12 @@ pub extern "C" fn qpl_multiplier(
     d: u64,
     rates: &[u32],
     distortions: &[u32],
+    weights: &[u8],
     plan: &mut [u8],
     scratch: &mut [u8],
     answer: &mut [u8],
 ) -> u64
-    ensures { λ r. ⌜ Tells plan-reply (λ a. MultiplierPromise (asking scans settings law (now (rates .entry)) (now (distortions .entry)) (Lent 24 (length (now (answer .entry))) (length (now (plan .entry)))) (length (now (scratch .entry)))) n d (now (plan .entry)) (now (scratch .entry)) a (now (plan .exit)) (now (scratch .exit))) (now (answer .entry)) r (now (answer .exit)) ⌝ }
+    ensures { λ r. ⌜ Tells plan-reply (λ a. MultiplierPromise (asking scans settings law (now (rates .entry)) (now (distortions .entry)) (now (weights .entry)) (Lent 24 (length (now (answer .entry))) (length (now (plan .entry)))) (length (now (scratch .entry)))) n d (now (plan .entry)) (now (scratch .entry)) a (now (plan .exit)) (now (scratch .exit))) (now (answer .entry)) r (now (answer .exit)) ⌝ }
 {
     let room = lent(24, answer.len(), plan.len());
     let told = multiplier_plan(
@@ -238,6 +243,7 @@ pub extern "C" fn qpl_multiplier(
         d,
         rates,
         distortions,
+        weights,
         &mut plan[..room],
         scratch,
     );
@@ -253,11 +259,12 @@ pub extern "C" fn qpl_minmax(
     budget: u64,
     rates: &[u32],
     distortions: &[u32],
+    weights: &[u8],
     plan: &mut [u8],
     scratch: &mut [u8],
     answer: &mut [u8],
 ) -> u64
-    ensures { λ r. ⌜ Tells minmax-reply (λ a. MinmaxPromise (asking scans settings law (now (rates .entry)) (now (distortions .entry)) (Lent 32 (length (now (answer .entry))) (length (now (plan .entry)))) (length (now (scratch .entry)))) budget (now (plan .entry)) (now (scratch .entry)) a (now (plan .exit)) (now (scratch .exit))) (now (answer .entry)) r (now (answer .exit)) ⌝ }
+    ensures { λ r. ⌜ Tells minmax-reply (λ a. MinmaxPromise (asking scans settings law (now (rates .entry)) (now (distortions .entry)) (now (weights .entry)) (Lent 32 (length (now (answer .entry))) (length (now (plan .entry)))) (length (now (scratch .entry)))) budget (now (plan .entry)) (now (scratch .entry)) a (now (plan .exit)) (now (scratch .exit))) (now (answer .entry)) r (now (answer .exit)) ⌝ }
 {
     let room = lent(32, answer.len(), plan.len());
     let told = minmax_plan(
@@ -267,6 +274,7 @@ pub extern "C" fn qpl_minmax(
         budget,
         rates,
         distortions,
+        weights,
         &mut plan[..room],
         scratch,
     );
@@ -282,11 +290,12 @@ pub extern "C" fn qpl_average(
     budget: u64,
     rates: &[u32],
     distortions: &[u32],
+    weights: &[u8],
     plan: &mut [u8],
     scratch: &mut [u8],
     answer: &mut [u8],
 ) -> u64
-    ensures { λ r. ⌜ Tells average-reply (λ a. AveragePromise (asking scans settings law (now (rates .entry)) (now (distortions .entry)) (Lent 48 (length (now (answer .entry))) (length (now (plan .entry)))) (length (now (scratch .entry)))) budget (now (plan .entry)) (now (scratch .entry)) a (now (plan .exit)) (now (scratch .exit))) (now (answer .entry)) r (now (answer .exit)) ⌝ }
+    ensures { λ r. ⌜ Tells average-reply (λ a. AveragePromise (asking scans settings law (now (rates .entry)) (now (distortions .entry)) (now (weights .entry)) (Lent 48 (length (now (answer .entry))) (length (now (plan .entry)))) (length (now (scratch .entry)))) budget (now (plan .entry)) (now (scratch .entry)) a (now (plan .exit)) (now (scratch .exit))) (now (answer .entry)) r (now (answer .exit)) ⌝ }
 {
     let room = lent(48, answer.len(), plan.len());
     let told = average_plan(
@@ -296,6 +305,7 @@ pub extern "C" fn qpl_average(
         budget,
         rates,
         distortions,
+        weights,
         &mut plan[..room],
         scratch,
     );

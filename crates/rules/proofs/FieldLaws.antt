@@ -18,11 +18,11 @@ use Rattle.checks.proofs.RangeLaws.{in-range}
 use Rattle.laws.proofs.Tests.{neither}
 use Rattle.rules.specs.declared.Fields.{Fields}
 use Rattle.rules.specs.declared.Faults.{Faults}
-use Rattle.rules.specs.Rules.{rule, header-rules, kind-out, n-broken, d-broken, rate-broken, peak-broken, floor-broken}
+use Rattle.rules.specs.Rules.{rule, header-rules, neither-of-two, n-broken, d-broken, rate-broken, peak-broken, floor-broken}
 use Rattle.checks.proofs.CheckLaws.{all-pass, none-when}
 
 -- a number that is 0 or 1
-zero-or-one : (x : ℕ) → not (eqb x 0 || eqb x 1) ≡ false → x ≤ 1
+zero-or-one : (x : ℕ) → neither-of-two x ≡ false → x ≤ 1
 zero-or-one x e = either-way (eqb x 0) (eqb x 1) (eqb-true x 0) (eqb-true x 1) (not-false _ e)
   where
     either-way : (a b : Bool) → (a ≡ true → x ≡ 0) → (b ≡ true → x ≡ 1) → (a || b) ≡ true → x ≤ 1
@@ -62,13 +62,14 @@ pub record RulesHold (lawless : Bool) (m : Faults) (f : Fields) : Type 0 where
   pub scans : (scans-out (f .scans) || m .length) ≡ false
   pub settings : settings-out (f .settings) ≡ false
   pub law : lawless ≡ false
-  pub kind : kind-out (f .kind) ≡ false
-  pub run-13 : m .run_13 ≡ false
+  pub kind : neither-of-two (f .kind) ≡ false
+  pub weighted : (m .run_13 || neither-of-two (f .weighted)) ≡ false
+  pub run-14 : m .run_14 ≡ false
   pub n : n-broken (f .kind) (f .n) (f .d) ≡ false
   pub d : d-broken (f .kind) (f .d) ≡ false
   pub rate : rate-broken (f .rate .0) (f .budget) ≡ false
   pub distortion : ltb most-total (f .distortion .0) ≡ false
-  pub peak : peak-broken (f .peak) (f .distortion .0) ≡ false
+  pub peak : peak-broken (f .weighted) (f .peak) (f .distortion .0) ≡ false
   pub floor : floor-broken (f .kind) (f .floor .0) (f .distortion .0) ≡ false
   pub run-48 : m .run_48 ≡ false
 
@@ -76,14 +77,15 @@ pub record RulesHold (lawless : Bool) (m : Faults) (f : Fields) : Type 0 where
 pub rules-hold : (lawless : Bool) (m : Faults) (f : Fields) → first-refusal (header-rules lawless m f) ≡ none → RulesHold lawless m f
 rules-hold lawless m f e =
     let p = all-pass (header-rules lawless m f) e in
-    let q = p .1 .1 .1 .1 .1 .1 in
+    let q = p .1 .1 .1 .1 .1 .1 .1 in
     record {
       letters = none-when _ _ (p .0);
       scans = none-when _ _ (p .1 .0);
       settings = none-when _ _ (p .1 .1 .0);
       law = none-when _ _ (p .1 .1 .1 .0);
       kind = none-when _ _ (p .1 .1 .1 .1 .0);
-      run-13 = none-when _ _ (p .1 .1 .1 .1 .1 .0);
+      weighted = none-when _ _ (p .1 .1 .1 .1 .1 .0);
+      run-14 = none-when _ _ (p .1 .1 .1 .1 .1 .1 .0);
       n = none-when _ _ (q .0);
       d = none-when _ _ (q .1 .0);
       rate = none-when _ _ (q .1 .1 .0);
@@ -96,7 +98,22 @@ rules-hold lawless m f e =
 -- and where each is kept, they give none
 pub rules-pass : (lawless : Bool) (m : Faults) (f : Fields) → RulesHold lawless m f → first-refusal (header-rules lawless m f) ≡ none
 rules-pass lawless m f k =
-    rw (k .letters, k .scans, k .settings, k .law, k .kind, k .run-13, k .n, k .d, k .rate, k .distortion, k .peak, k .floor, k .run-48)
+    rw (
+      k .letters,
+      k .scans,
+      k .settings,
+      k .law,
+      k .kind,
+      k .weighted,
+      k .run-14,
+      k .n,
+      k .d,
+      k .rate,
+      k .distortion,
+      k .peak,
+      k .floor,
+      k .run-48,
+    )
 
 -- the limits of the fields
 pub record Limited (f : Fields) : Type 0 where
@@ -109,6 +126,7 @@ pub record Limited (f : Fields) : Type 0 where
   pub distortion : f .distortion .0 ≤ most-total
   pub peak : f .peak ≤ most-cell
   pub floor : f .floor .0 ≤ most-total
+  pub weighted : f .weighted ≤ 1
 
 -- fields that keep their rules keep within the limits
 pub limited : (lawless : Bool) (m : Faults) (f : Fields) → RulesHold lawless m f → Limited f
@@ -124,6 +142,7 @@ limited lawless m f k =
       distortion = total;
       peak = ltb-false most-cell (f .peak) (neither _ _ (k .peak) .0);
       floor = omega (arith, floor-small (f .kind) (f .floor .0) (f .distortion .0) (k .floor), total);
+      weighted = zero-or-one (f .weighted) (neither (m .run_13) _ (k .weighted) .1);
     }
 
 -- what holds of the refusals of the header, whose fields start at byte 48 or before, holds of the first that is given
@@ -139,24 +158,27 @@ rules-give P lawless m f h =
           (
             at lawless 11 (omega arith),
             (
-              at (kind-out (f .kind)) 12 (omega arith),
+              at (neither-of-two (f .kind)) 12 (omega arith),
               (
-                at (m .run_13) 13 (omega arith),
+                at (m .run_13 || neither-of-two (f .weighted)) 13 (omega arith),
                 (
-                  at (n-broken (f .kind) (f .n) (f .d)) 24 (omega arith),
+                  at (m .run_14) 14 (omega arith),
                   (
-                    at (d-broken (f .kind) (f .d)) 28 (omega arith),
+                    at (n-broken (f .kind) (f .n) (f .d)) 24 (omega arith),
                     (
-                      at (rate-broken (f .rate .0) (f .budget)) 32 (omega arith),
+                      at (d-broken (f .kind) (f .d)) 28 (omega arith),
                       (
-                        at (ltb most-total (f .distortion .0)) 36 (omega arith),
+                        at (rate-broken (f .rate .0) (f .budget)) 32 (omega arith),
                         (
-                          at (peak-broken (f .peak) (f .distortion .0)) 40 (omega arith),
+                          at (ltb most-total (f .distortion .0)) 36 (omega arith),
                           (
-                            at (floor-broken (f .kind) (f .floor .0) (f .distortion .0)) 44 (omega arith),
+                            at (peak-broken (f .weighted) (f .peak) (f .distortion .0)) 40 (omega arith),
                             (
-                              at (m .run_48) 48 (omega arith),
-                              tt,
+                              at (floor-broken (f .kind) (f .floor .0) (f .distortion .0)) 44 (omega arith),
+                              (
+                                at (m .run_48) 48 (omega arith),
+                                tt,
+                              ),
                             ),
                           ),
                         ),

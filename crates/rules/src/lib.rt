@@ -18,7 +18,8 @@ ghost use mathlib.Core.Path.{_≡_};
 ghost use mathlib.Core.Bool.{_||_};
 ghost use Rattle.tables.specs.Law.{«law-out»};
 ghost use Rattle.checks.specs.Checks.{«first-refusal»};
-ghost use Rattle.rules.specs.Rules.{«header-rules», «kind-out», «n-broken», «d-broken», «rate-broken», «peak-broken», «floor-broken»};
+ghost use Rattle.rules.specs.Rules.{«header-rules», «neither-of-two», «n-broken», «d-broken»};
+ghost use Rattle.rules.specs.Rules.{«rate-broken», «peak-broken», «floor-broken»};
 ghost use Rattle.checks.specs.Stages.{ended};
 
 pub struct Fields {
@@ -34,24 +35,28 @@ pub struct Fields {
     pub distortion: Dist,
     pub peak: u64,
     pub floor: Dist,
+    // the mark of weights, 0 or 1 (`filing` makes it from the weights)
+    pub weighted: u64,
 }
 
-// What is wrong in block 0 beside its fields: other letters, another length than N's, a run of zeros that is none.
+// What is wrong in block 0 beside its fields: other letters, another length than N's, a run of zeros that is none. (The run from byte 13 on is
+// not QPL2's.)
 pub struct Faults {
     pub letters: bool,
     pub length: bool,
     pub run_13: bool,
+    pub run_14: bool,
     pub run_48: bool,
 }
 
-// Neither an average nor a minmax plan.
-fn no_kind(kind: u64) -> bool
-    ensures { λ r. ⌜ r ≡ kind-out kind ⌝ }
+// Neither 0 nor 1: no kind of plan, and no mark of weights.
+fn neither_of_two(x: u64) -> bool
+    ensures { λ r. ⌜ r ≡ neither-of-two x ⌝ }
 {
-    if kind == 0 {
+    if x == 0 {
         return false;
     }
-    kind != 1
+    x != 1
 }
 
 fn either_of(a: bool, b: bool) -> bool
@@ -96,11 +101,15 @@ fn rate_wrong(rate: u64, budget: u64) -> bool
     budget < rate
 }
 
-fn peak_wrong(peak: u64, distortion: u64) -> bool
-    ensures { λ r. ⌜ r ≡ peak-broken peak distortion ⌝ }
+// Where some weight is not 1 the distortion is a weighted sum, and a cell of a scan of weight 0 may be above it.
+fn peak_wrong(weighted: u64, peak: u64, distortion: u64) -> bool
+    ensures { λ r. ⌜ r ≡ peak-broken weighted peak distortion ⌝ }
 {
     if cell_to_number(MOST_CELL) < peak {
         return true;
+    }
+    if weighted != 0 {
+        return false;
     }
     distortion < peak
 }
@@ -130,15 +139,20 @@ pub fn rules(m: Faults, f: Fields) -> Stage
         Refusal::Header(10),
     );
     let law = then(settings, no_law(f.law), Refusal::Header(11));
-    let kind = then(law, no_kind(f.kind), Refusal::Header(12));
-    let run_13 = then(kind, m.run_13, Refusal::Header(13));
-    let n = then(run_13, n_wrong(f.kind, f.n, f.d), Refusal::Header(24));
+    let kind = then(law, neither_of_two(f.kind), Refusal::Header(12));
+    let weighted = then(
+        kind,
+        either_of(m.run_13, neither_of_two(f.weighted)),
+        Refusal::Header(13),
+    );
+    let run_14 = then(weighted, m.run_14, Refusal::Header(14));
+    let n = then(run_14, n_wrong(f.kind, f.n, f.d), Refusal::Header(24));
     let d = then(n, d_wrong(f.kind, f.d), Refusal::Header(28));
     let rate = then(d, rate_wrong(f.rate.0, f.budget), Refusal::Header(32));
     let distortion = then(rate, MOST_TOTAL < f.distortion.0, Refusal::Header(36));
     let peak = then(
         distortion,
-        peak_wrong(f.peak, f.distortion.0),
+        peak_wrong(f.weighted, f.peak, f.distortion.0),
         Refusal::Header(40),
     );
     let floor = then(

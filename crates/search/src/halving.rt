@@ -17,13 +17,23 @@ fn some_fit(
     budget: u64,
     rates: &[u32],
     distortions: &[u32],
+    weights: &[u8],
     scratch: &mut [u8],
 ) -> bool
-    requires { ⌜ Fit scans settings (now rates) (now distortions) (length (now scratch)) ⌝ }
-    ensures { λ r. ⌜ ThriftyFits (planning (table scans settings law (now (rates .entry)) (now (distortions .entry)))) scans settings ceiling budget (now (scratch .entry)) (now (scratch .exit)) r ⌝ }
+    requires { ⌜ Fit scans settings (now rates) (now distortions) (now weights) (length (now scratch)) ⌝ }
+    ensures { λ r. ⌜ ThriftyFits (planning (table scans settings law (now (rates .entry)) (now (distortions .entry)) (now (weights .entry)))) scans settings ceiling budget (now (scratch .entry)) (now (scratch .exit)) r ⌝ }
 {
-    if thrifty_pass(scans, settings, law, ceiling, rates, distortions, scratch) {
-        let totals = total_up(scans, settings, law, rates, distortions, scratch);
+    if thrifty_pass(
+        scans,
+        settings,
+        law,
+        ceiling,
+        rates,
+        distortions,
+        weights,
+        scratch,
+    ) {
+        let totals = total_up(scans, settings, law, rates, distortions, weights, scratch);
         return totals.rate.0 <= budget;
     }
     false
@@ -38,11 +48,12 @@ pub fn least_ceiling(
     high: u32,
     rates: &[u32],
     distortions: &[u32],
+    weights: &[u8],
     scratch: &mut [u8],
 ) -> u32
-    requires { ⌜ Fit scans settings (now rates) (now distortions) (length (now scratch)) ⌝ }
-    requires { ⌜ SomeFits (planning (table scans settings law (now rates) (now distortions))) budget high ⌝ }
-    ensures { λ r. ⌜ LeastCeiling (planning (table scans settings law (now (rates .entry)) (now (distortions .entry)))) scans settings budget r (now (scratch .entry)) (now (scratch .exit)) ⌝ }
+    requires { ⌜ Fit scans settings (now rates) (now distortions) (now weights) (length (now scratch)) ⌝ }
+    requires { ⌜ SomeFits (planning (table scans settings law (now rates) (now distortions) (now weights))) budget high ⌝ }
+    ensures { λ r. ⌜ LeastCeiling (planning (table scans settings law (now (rates .entry)) (now (distortions .entry)) (now (weights .entry)))) scans settings budget r (now (scratch .entry)) (now (scratch .exit)) ⌝ }
 {
     let mut low: u32 = 0;
     let mut least = high;
@@ -56,6 +67,7 @@ pub fn least_ceiling(
             budget,
             rates,
             distortions,
+            weights,
             scratch,
         ) {
             least = middle;

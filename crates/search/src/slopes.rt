@@ -60,17 +60,28 @@ pub fn slopes(
     start: Bracket,
     rates: &[u32],
     distortions: &[u32],
+    weights: &[u8],
     scratch: &mut [u8],
 ) -> Ratio
-    requires { ⌜ Fit scans settings (now rates) (now distortions) (length (now scratch)) ⌝ }
-    requires { ⌜ Bracketed (planning (table scans settings law (now rates) (now distortions))) budget (start .lo) (start .hi) ⌝ }
-    ensures { λ r. ⌜ SlopeEnd (planning (table scans settings law (now (rates .entry)) (now (distortions .entry)))) scans settings budget (r .n) (r .d) (now (scratch .entry)) (now (scratch .exit)) ⌝ }
+    requires { ⌜ Fit scans settings (now rates) (now distortions) (now weights) (length (now scratch)) ⌝ }
+    requires { ⌜ Bracketed (planning (table scans settings law (now rates) (now distortions) (now weights))) budget (start .lo) (start .hi) ⌝ }
+    ensures { λ r. ⌜ SlopeEnd (planning (table scans settings law (now (rates .entry)) (now (distortions .entry)) (now (weights .entry)))) scans settings budget (r .n) (r .d) (now (scratch .entry)) (now (scratch .exit)) ⌝ }
 {
     let mut at = start;
     loop {
         let s = slope_of(at);
-        multiplier_pass(scans, settings, law, s.n, s.d, rates, distortions, scratch);
-        let plan = total_up(scans, settings, law, rates, distortions, scratch);
+        multiplier_pass(
+            scans,
+            settings,
+            law,
+            s.n,
+            s.d,
+            rates,
+            distortions,
+            weights,
+            scratch,
+        );
+        let plan = total_up(scans, settings, law, rates, distortions, weights, scratch);
         if ties(plan, at.lo, s.n, s.d) {
             return s;
         }

@@ -41,9 +41,9 @@ least-same : {C C′ : List ℕ → Type 0} {k : List ℕ → ℕ} {s : List ℕ
 least-same {s = s} to from l = record { one = to s (l .one); ahead = λ t c. l .ahead t (from t c) }
 
 -- a table under any law
-module _ {N Q : ℕ} (law : Law) {rates distortions : List ℕ} {room : ℕ} (fit : Fit N Q rates distortions room) where
+module _ {N Q : ℕ} (law : Law) {rates distortions weights : List ℕ} {room : ℕ} (fit : Fit N Q rates distortions weights room) where
   abbrev T : Table
-  T = table-under law N Q rates distortions
+  T = table-under law N Q rates distortions weights
 
   abbrev P : Problem
   P = planning T
@@ -121,11 +121,11 @@ wiped-same {k} {before} {after} f = ap (λ (l : List ℕ). replicate k 0 ++ l) (
     (λ i h. rw (getD-drop k after i 0, getD-drop k before i 0) (f .rest (k + i) (omega arith))))
 
 -- scratch is as long after a pass as before it
-pub fit-framed : {N Q k : ℕ} {rates distortions before after : List ℕ} → Fit N Q rates distortions (length before) → Framed k before after →
-    Fit N Q rates distortions (length after)
+pub fit-framed : {N Q k : ℕ} {rates distortions weights before after : List ℕ} → Fit N Q rates distortions weights (length before) → Framed k before after →
+    Fit N Q rates distortions weights (length after)
 fit-framed fit f = rw (f .long) fit
 
 -- so it can be wiped
-pub wipe-fits : {N Q : ℕ} {rates distortions : List ℕ} {room : ℕ} → Fit N Q rates distortions room →
+pub wipe-fits : {N Q : ℕ} {rates distortions weights : List ℕ} {room : ℕ} → Fit N Q rates distortions weights room →
     (N ≤ most-scans) × ((Q ≤ most-settings) × (scratch-need N Q ≤ room))
 wipe-fits f = (f .scans, (f .settings, f .room))

@@ -33,14 +33,15 @@ pub fn finish(
     law: u64,
     rates: &[u32],
     distortions: &[u32],
+    weights: &[u8],
     plan: &mut [u8],
     scratch: &mut [u8],
 ) -> Totals
-    requires { ⌜ Fit scans settings (now rates) (now distortions) (length (now scratch)) × (scans ≤ length (now plan)) ⌝ }
-    requires { ⌜ planning (table scans settings law (now rates) (now distortions)) .allowed (chosen settings scans (now scratch)) ⌝ }
-    ensures { λ r. ⌜ Finished (planning (table scans settings law (now (rates .entry)) (now (distortions .entry)))) scans settings (now (plan .entry)) (now (scratch .entry)) r (now (plan .exit)) (now (scratch .exit)) ⌝ }
+    requires { ⌜ Fit scans settings (now rates) (now distortions) (now weights) (length (now scratch)) × (scans ≤ length (now plan)) ⌝ }
+    requires { ⌜ planning (table scans settings law (now rates) (now distortions) (now weights)) .allowed (chosen settings scans (now scratch)) ⌝ }
+    ensures { λ r. ⌜ Finished (planning (table scans settings law (now (rates .entry)) (now (distortions .entry)) (now (weights .entry)))) scans settings (now (plan .entry)) (now (scratch .entry)) r (now (plan .exit)) (now (scratch .exit)) ⌝ }
 {
-    let totals = total_up(scans, settings, law, rates, distortions, scratch);
+    let totals = total_up(scans, settings, law, rates, distortions, weights, scratch);
     close(true, scans, settings, plan, scratch);
     totals
 }

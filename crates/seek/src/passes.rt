@@ -25,17 +25,27 @@ pub fn thrifty_pass(
     ceiling: u32,
     rates: &[u32],
     distortions: &[u32],
+    weights: &[u8],
     scratch: &mut [u8],
 ) -> bool
-    requires { ⌜ Fit scans settings (now rates) (now distortions) (length (now scratch)) ⌝ }
-    ensures { λ r. ⌜ ThriftyPass (planning (table scans settings law (now (rates .entry)) (now (distortions .entry)))) scans settings ceiling (now (scratch .entry)) (now (scratch .exit)) r ⌝ }
+    requires { ⌜ Fit scans settings (now rates) (now distortions) (now weights) (length (now scratch)) ⌝ }
+    ensures { λ r. ⌜ ThriftyPass (planning (table scans settings law (now (rates .entry)) (now (distortions .entry)) (now (weights .entry)))) scans settings ceiling (now (scratch .entry)) (now (scratch .exit)) r ⌝ }
 {
     let rule = Rule {
         a: 1,
         b: RATE_FIRST,
         ceiling,
     };
-    pass(scans, settings, law, rule, rates, distortions, scratch)
+    pass(
+        scans,
+        settings,
+        law,
+        rule,
+        rates,
+        distortions,
+        weights,
+        scratch,
+    )
 }
 
 // The weights of n/d as a rule with no ceiling.
@@ -59,11 +69,12 @@ pub fn multiplier_pass(
     d: u64,
     rates: &[u32],
     distortions: &[u32],
+    weights: &[u8],
     scratch: &mut [u8],
 ) -> bool
-    requires { ⌜ Fit scans settings (now rates) (now distortions) (length (now scratch)) ⌝ }
+    requires { ⌜ Fit scans settings (now rates) (now distortions) (now weights) (length (now scratch)) ⌝ }
     requires { ⌜ (n ≤ most-term) × ((1 ≤ d) × (d ≤ most-term)) ⌝ }
-    ensures { λ r. ⌜ MultiplierPass (planning (table scans settings law (now (rates .entry)) (now (distortions .entry)))) scans settings n d (now (scratch .entry)) (now (scratch .exit)) r ⌝ }
+    ensures { λ r. ⌜ MultiplierPass (planning (table scans settings law (now (rates .entry)) (now (distortions .entry)) (now (weights .entry)))) scans settings n d (now (scratch .entry)) (now (scratch .exit)) r ⌝ }
 {
     pass(
         scans,
@@ -72,6 +83,7 @@ pub fn multiplier_pass(
         weighing(n, d),
         rates,
         distortions,
+        weights,
         scratch,
     )
 }

@@ -24,10 +24,11 @@ pub fn start(
     budget: u64,
     rates: &[u32],
     distortions: &[u32],
+    weights: &[u8],
     scratch: &mut [u8],
 ) -> Started
-    requires { ⌜ Fit scans settings (now rates) (now distortions) (length (now scratch)) ⌝ }
-    ensures { λ r. ⌜ StartedAs (planning (table scans settings law (now (rates .entry)) (now (distortions .entry)))) scans settings budget (now (scratch .entry)) (now (scratch .exit)) (start-reply r) ⌝ }
+    requires { ⌜ Fit scans settings (now rates) (now distortions) (now weights) (length (now scratch)) ⌝ }
+    ensures { λ r. ⌜ StartedAs (planning (table scans settings law (now (rates .entry)) (now (distortions .entry)) (now (weights .entry)))) scans settings budget (now (scratch .entry)) (now (scratch .exit)) (start-reply r) ⌝ }
 {
     if !thrifty_pass(
         scans,
@@ -36,12 +37,13 @@ pub fn start(
         NO_CEILING,
         rates,
         distortions,
+        weights,
         scratch,
     ) {
         wipe(scratch, scans, settings);
         return Started::Refused(Refusal::NoSequence);
     }
-    let totals = total_up(scans, settings, law, rates, distortions, scratch);
+    let totals = total_up(scans, settings, law, rates, distortions, weights, scratch);
     if budget < totals.rate.0 {
         wipe(scratch, scans, settings);
         return Started::Refused(Refusal::NoneWithin);

@@ -13,48 +13,54 @@ use Rattle.criteria.proofs.Demand.{average-certificate}
 use Rattle.criteria.proofs.Small.{average-small}
 use Rattle.tables.specs.Limits.{most-scans, most-cell, most-total, most-term, forbidden}
 use Rattle.tables.specs.Series.{Series, Kept, total, largest, problem}
-use Rattle.tables.specs.Tables.{Table, cell, series, planning}
-use Rattle.tables.specs.Legal.{LegalCell, AllLegal, LegalTable}
+use Rattle.tables.specs.Tables.{Table, cell, rate-at, distortion-at, weight-at, series, planning}
+use Rattle.tables.specs.Legal.{LegalRate, LegalBeside, weights-by-scan, LegalCell, AllLegal, LegalTable}
+use Rattle.tables.proofs.CellLaws.{scan-of-cell}
 use Rattle.tables.proofs.Listing.{table-finite}
 
--- a series of a legal table: a step that may be taken has a rate and a distortion of at most 1,048,575
+-- a step between two settings that may be taken is at most c
+abbrev pub StepsWithin : (S : Series) → (ℕ → ℕ → ℕ → ℕ) → ℕ → Type 0
+StepsWithin S f c = (i p q : ℕ) → p < S .settings → q < S .settings → S .may i p q → f i p q ≤ c
+
+-- a series of a legal table: a step that may be taken has a rate, a plain and a weighted distortion of at most 1,048,575
 pub record Bounded (S : Series) : Type 0 where
   pub scans : S .scans ≤ most-scans
-  pub rate : (i p q : ℕ) → S .may i p q → S .rate i p q ≤ most-cell
-  pub distortion : (i p q : ℕ) → S .may i p q → S .distortion i p q ≤ most-cell
-  pub height : (i p q : ℕ) → S .may i p q → S .height i p q ≤ most-cell
+  pub some-settings : 1 ≤ S .settings
+  pub rate : StepsWithin S (S .rate) most-cell
+  pub distortion : StepsWithin S (S .distortion) most-cell
+  pub height : StepsWithin S (S .height) most-cell
 
 -- steps of at most c each
-pub total-small : (S : Series) (f : ℕ → ℕ → ℕ → ℕ) (c : ℕ) → ((i p q : ℕ) → S .may i p q → f i p q ≤ c) →
-    (i p : ℕ) (s : List ℕ) → Kept S i p s → total f i p s ≤ length s * c
-total-small S f c h i p [] k = omega arith
-total-small S f c h i p (q ∷ s) k = omega (arith, h i p q (k .1), total-small S f c h (suc i) q s (k .2))
+pub total-small : (S : Series) (f : ℕ → ℕ → ℕ → ℕ) (c : ℕ) → StepsWithin S f c →
+    (i p : ℕ) (s : List ℕ) → p < S .settings → Kept S i p s → total f i p s ≤ length s * c
+total-small S f c h i p [] l k = omega arith
+total-small S f c h i p (q ∷ s) l k = omega (arith, h i p q l (k .0) (k .1), total-small S f c h (suc i) q s (k .0) (k .2))
 
-largest-small : (S : Series) (f : ℕ → ℕ → ℕ → ℕ) → ((i p q : ℕ) → S .may i p q → f i p q ≤ most-cell) →
-    (i p : ℕ) (s : List ℕ) → Kept S i p s → largest f i p s ≤ most-cell
-largest-small S f h i p [] k = omega arith
-largest-small S f h i p (q ∷ s) k = omega (arith, h i p q (k .1), largest-small S f h (suc i) q s (k .2))
+largest-small : (S : Series) (f : ℕ → ℕ → ℕ → ℕ) → StepsWithin S f most-cell →
+    (i p : ℕ) (s : List ℕ) → p < S .settings → Kept S i p s → largest f i p s ≤ most-cell
+largest-small S f h i p [] l k = omega arith
+largest-small S f h i p (q ∷ s) l k = omega (arith, h i p q l (k .0) (k .1), largest-small S f h (suc i) q s (k .0) (k .2))
 
 module _ (S : Series) (c : Bounded S) (s : List ℕ) (a : problem S .allowed s) where
   pub rate-small : problem S .rate s ≤ most-total
-  rate-small = omega (arith, a .0, c .scans, total-small S (S .rate) most-cell (c .rate) 0 0 s (a .1))
+  rate-small = omega (arith, a .0, c .scans, total-small S (S .rate) most-cell (c .rate) 0 0 s (c .some-settings) (a .1))
 
   pub distortion-small : problem S .distortion s ≤ most-total
-  distortion-small = omega (arith, a .0, c .scans, total-small S (S .distortion) most-cell (c .distortion) 0 0 s (a .1))
+  distortion-small = omega (arith, a .0, c .scans, total-small S (S .distortion) most-cell (c .distortion) 0 0 s (c .some-settings) (a .1))
 
   pub peak-small : problem S .peak s ≤ most-cell
-  peak-small = largest-small S (S .height) (c .height) 0 0 s (a .1)
+  peak-small = largest-small S (S .height) (c .height) 0 0 s (c .some-settings) (a .1)
 
 -- past the end of a table nothing stands, so every cell of a legal table is legal, whatever its number
-pub legal-anywhere : (rates distortions : List ℕ) → length distortions ≡ length rates → AllLegal rates distortions →
-    (k : ℕ) → LegalCell rates distortions k
-legal-anywhere rates distortions e l k = by-place (decLt k (length rates))
+pub legal-anywhere : (weigh : ℕ → ℕ) (rates distortions : List ℕ) → length distortions ≡ length rates → AllLegal weigh rates distortions →
+    (k : ℕ) → LegalCell weigh rates distortions k
+legal-anywhere weigh rates distortions e l k = by-place (decLt k (length rates))
   where
-    by-place : Dec (k < length rates) → LegalCell rates distortions k
+    by-place : Dec (k < length rates) → LegalCell weigh rates distortions k
     by-place (yes h) = l k h
     by-place (no h) = (
       inl (rw (List·getD-eq-default rates 0 {n = k} (omega arith)) (omega arith)),
-      inl (rw (List·getD-eq-default distortions 0 {n = k} (omega arith)) (omega arith)),
+      inl (rw (List·getD-eq-default distortions 0 {n = k} (omega arith)) (omega arith, omega arith)),
     )
 
 unmarked : {A : Type 0} {r : ℕ} → r ≢ forbidden → A ⊎ (r ≡ forbidden) → A
@@ -62,15 +68,19 @@ unmarked n (inl a) = a
 unmarked n (inr e) = absurd (n e)
 
 module _ (t : Table) (legal : LegalTable t) where
-  at : (k : ℕ) → LegalCell (t .rates) (t .distortions) k
-  at = legal-anywhere (t .rates) (t .distortions) (omega (arith, legal .rates, legal .distortions)) (legal .legal)
+  -- a cell between two settings, by its scan
+  pub legal-at : (i p q : ℕ) → p < t .Q → q < t .Q → LegalRate (rate-at t i p q) × LegalBeside (weight-at t i) (rate-at t i p q) (distortion-at t i p q)
+  legal-at i p q h g =
+      let c = legal-anywhere (weights-by-scan (t .Q) (t .weights)) (t .rates) (t .distortions) (omega (arith, legal .rates, legal .distortions)) (legal .legal) (cell (t .Q) i p q) in
+      (c .0, rw (scan-of-cell (t .Q) i p q h g) at (c .1))
 
   pub table-small : Bounded (series t)
   table-small = record {
     scans = legal .scans;
-    rate = λ i p q m. unmarked (m .0) (at (cell (t .Q) i p q) .0);
-    distortion = λ i p q m. unmarked (m .0) (at (cell (t .Q) i p q) .1);
-    height = λ i p q m. unmarked (m .0) (at (cell (t .Q) i p q) .1);
+    some-settings = legal .some-settings;
+    rate = λ i p q h g m. unmarked (m .0) (legal-at i p q h g .0);
+    distortion = λ i p q h g m. unmarked (m .0) (legal-at i p q h g .1) .1;
+    height = λ i p q h g m. unmarked (m .0) (legal-at i p q h g .1) .0;
   }
 
   -- "Both sums are at most 1,073,740,800."

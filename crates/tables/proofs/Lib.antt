@@ -6,4 +6,5 @@ pub mod Listing
 pub mod Bench
 pub mod SeriesLaws
 pub mod Bounds
+pub mod OneLaws
 pub mod Hidden

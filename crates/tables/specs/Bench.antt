@@ -6,13 +6,13 @@ use Rattle.criteria.specs.Choice.{Problem, UnderCeiling, InBudget, Ceiling, Mul
 use Rattle.criteria.specs.Passes.{Passes}
 use Rattle.tables.specs.Tables.{Table, table, planning}
 
--- "Table T: N 2, Q 2, law 0. Rates 10 4 8 3 9 5. Distortions 2 7 3 6 4 10."
+-- "Table T: N 2, Q 2, law 0. Rates 10 4 8 3 9 5. Distortions 2 7 3 6 4 10." The weights are 1.
 abbrev pub tableT : Table
-tableT = table 2 2 0 (10 ∷ 4 ∷ 8 ∷ 3 ∷ 9 ∷ 5 ∷ []) (2 ∷ 7 ∷ 3 ∷ 6 ∷ 4 ∷ 10 ∷ [])
+tableT = table 2 2 0 (10 ∷ 4 ∷ 8 ∷ 3 ∷ 9 ∷ 5 ∷ []) (2 ∷ 7 ∷ 3 ∷ 6 ∷ 4 ∷ 10 ∷ []) (1 ∷ 1 ∷ [])
 
 -- "Table U: N 1, Q 3, law 0. Rates 9 6 2. Distortions 0 8 10."
 abbrev pub tableU : Table
-tableU = table 1 3 0 (9 ∷ 6 ∷ 2 ∷ []) (0 ∷ 8 ∷ 10 ∷ [])
+tableU = table 1 3 0 (9 ∷ 6 ∷ 2 ∷ []) (0 ∷ 8 ∷ 10 ∷ []) (1 ∷ [])
 
 abbrev pub T : Problem
 T = planning tableT

@@ -6,7 +6,7 @@ use lib.ListN.{length}
 use Rattle.criteria.specs.Choice.{Problem}
 
 -- "Dependence reaches one scan back": each function takes the scan's number, the setting of the scan before (at scan 0 there is none, and
--- 0 stands in its place) and the scan's setting. `height` is what the peak is the largest of.
+-- 0 stands in its place) and the scan's setting. `distortion` is what counts, `height` what the peak is the largest of.
 pub record Series : Type 1 where
   pub scans : ℕ
   pub settings : ℕ

@@ -9,7 +9,7 @@ use Rattle.telling.specs.declared.Answer.{Answer}
 
 -- as many values as the longest answer has, that of the reader
 abbrev pub most-values : ℕ
-most-values = 12
+most-values = 13
 
 -- What can be told: an answer whose values the buffer holds, or a refusal that carries less than 2 ^ 32.
 pub record Tellable (reply : Reply) (room : ℕ) : Type 0 where

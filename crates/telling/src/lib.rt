@@ -26,7 +26,7 @@ ghost use Rattle.telling.specs.Parts.{«most-values», Tellable, «answe
 pub struct Answer {
     pub ended: Stage,
     // as many as the longest answer has, that of the reader
-    pub values: [u64; 12],
+    pub values: [u64; 13],
     pub count: usize,
 }
 
@@ -49,7 +49,7 @@ pub fn word(r: Refusal) -> u64
 }
 
 // The first `count` values, one behind the other.
-fn put_values(values: [u64; 12], count: usize, answer: &mut [u8])
+fn put_values(values: [u64; 13], count: usize, answer: &mut [u8])
     requires { ⌜ (count ≤ most-values) × (8 * count ≤ length (now answer)) ⌝ }
     ensures { λ _. ⌜ now (answer .exit) ≡ sets (now (answer .entry)) 0 (eights (take count values)) ⌝ }
 {
@@ -77,7 +77,7 @@ pub fn tell(told: Answer, answer: &mut [u8]) -> u64
 }
 
 // A call that answers.
-fn passed(values: [u64; 12], count: usize) -> Answer
+fn passed(values: [u64; 13], count: usize) -> Answer
     requires { ⌜ count ≤ most-values ⌝ }
     ensures { λ r. ⌜ (answer-reply r ≡ answered (take count values)) × (r .count ≤ most-values) ⌝ }
 {
@@ -94,7 +94,7 @@ fn stopped(why: Refusal) -> Answer
 {
     Answer {
         ended: Stage::Stopped(why),
-        values: [0; 12],
+        values: [0; 13],
         count: 0,
     }
 }
@@ -105,7 +105,7 @@ pub fn room_answer(told: RoomAnswer) -> Answer
 {
     match told {
         RoomAnswer::Given(g) => {
-            let values = [g.cells, g.bytes, g.scratch, 0, 0, 0, 0, 0, 0, 0, 0, 0];
+            let values = [g.cells, g.bytes, g.scratch, 0, 0, 0, 0, 0, 0, 0, 0, 0, 0];
             passed(values, 3)
         }
         RoomAnswer::Refused(r) => stopped(r),
@@ -118,7 +118,21 @@ pub fn plan_answer(told: PlanAnswer) -> Answer
 {
     match told {
         PlanAnswer::Planned(t) => {
-            let values = [t.rate.0, t.distortion.0, t.peak, 0, 0, 0, 0, 0, 0, 0, 0, 0];
+            let values = [
+                t.rate.0,
+                t.distortion.0,
+                t.peak,
+                0,
+                0,
+                0,
+                0,
+                0,
+                0,
+                0,
+                0,
+                0,
+                0,
+            ];
             passed(values, 3)
         }
         PlanAnswer::Refused(r) => stopped(r),
@@ -136,6 +150,7 @@ pub fn minmax_answer(told: MinmaxAnswer) -> Answer
                 m.totals.rate.0,
                 m.totals.distortion.0,
                 m.totals.peak,
+                0,
                 0,
                 0,
                 0,
@@ -170,6 +185,7 @@ pub fn average_answer(told: AverageAnswer) -> Answer
                 0,
                 0,
                 0,
+                0,
             ];
             passed(values, 6)
         }
@@ -183,14 +199,14 @@ pub fn export_answer(told: ExportAnswer) -> Answer
 {
     match told {
         ExportAnswer::Exported(n) => {
-            let values = [n, 0, 0, 0, 0, 0, 0, 0, 0, 0, 0, 0];
+            let values = [n, 0, 0, 0, 0, 0, 0, 0, 0, 0, 0, 0, 0];
             passed(values, 1)
         }
         ExportAnswer::Refused(r) => stopped(r),
     }
 }
 
-// scans, settings, law, kind, budget, n, d, rate, distortion, peak, floor, version
+// scans, settings, law, kind, budget, n, d, rate, distortion, peak, floor, version, weighted
 pub fn read_answer(told: ReadAnswer) -> Answer
     ensures { λ r. ⌜ (answer-reply r ≡ read-reply told) × (r .count ≤ most-values) ⌝ }
 {
@@ -210,8 +226,9 @@ pub fn read_answer(told: ReadAnswer) -> Answer
                 f.peak,
                 f.floor.0,
                 p.version,
+                f.weighted,
             ];
-            passed(values, 12)
+            passed(values, 13)
         }
         ReadAnswer::Refused(r) => stopped(r),
     }

@@ -1,3 +1,4 @@
+pub mod ClosedLaws
 pub mod SquareLaws
 pub mod ChoiceLaws
 pub mod StepLaws

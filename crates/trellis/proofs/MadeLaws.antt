@@ -26,7 +26,7 @@ module _ {t : Table} {rule : Rule} {before : List ℕ} where
   stepped-rest (unstepped e z) k h = refl
   stepped-rest (stepped e l r d s w) k h = s .beyond (t .N) k l h ∙ stepped-rest w k h
 
-  module _ {room : ℕ} (fit : Fit (t .N) (t .Q) (t .rates) (t .distortions) room) (light : Light rule) where
+  module _ {room : ℕ} (fit : Fit (t .N) (t .Q) (t .rates) (t .distortions) (t .weights) room) (light : Light rule) where
     -- what lies ahead of each setting is known
     pub stepped-done : {i : ℕ} {keys scratch : List ℕ} → SteppedTo t rule before i keys scratch → Done t rule i scratch keys
     stepped-done {i} {keys} (unstepped e z) = done-none t rule fit light i before keys e z

@@ -47,12 +47,12 @@ module _ (S : Series) (f : ℕ → ℕ → ℕ → ℕ) where
 
   -- no way on to the end costs as much as no-way
   abbrev pub Below : ℕ → ℕ → Type 0
-  Below n i = (p : ℕ) (t : List ℕ) → Onward S n i p t → total f i p t < no-way
+  Below n i = (p : ℕ) (t : List ℕ) → p < S .settings → Onward S n i p t → total f i p t < no-way
 
   -- the row of a scan, from the row of the next
-  pub row-step : {m n i : ℕ} {ch : ℕ → ℕ → ℕ} {k v : ℕ → ℕ} → Below (suc n) i → Row (S .settings) n (suc i) ch k →
+  pub row-step : {m n i : ℕ} {ch : ℕ → ℕ → ℕ} {k v : ℕ → ℕ} → m ≤ S .settings → Below (suc n) i → Row (S .settings) n (suc i) ch k →
       ((p : ℕ) → p < m → BestChoice i p k (v p) (ch i p)) → Row m (suc n) i ch v
-  row-step {m} {n} {i} {ch} {k} {v} below row c = record {
+  row-step {m} {n} {i} {ch} {k} {v} few below row c = record {
     capped = λ p h. c p h .capped;
     dead = λ p h e t o. none p h e t (o .0) (o .1);
     live = λ p h e. let w = c p h .found e in
@@ -79,7 +79,7 @@ module _ (S : Series) (f : ℕ → ℕ → ℕ → ℕ) where
             c p h .least q (x .0) (x .1),
             row .cost q (x .0) a,
             then-le (row .live q (x .0) a .ahead t o),
-            below p (q ∷ t) (l, x),
+            below p (q ∷ t) (omega arith) (l, x),
           )
 
       others : (p : ℕ) → p < m → v p < no-way → (q : ℕ) (t : List ℕ) → q < S .settings → S .may i p q → Onward S n (suc i) q t →

@@ -2,6 +2,7 @@
 use crate::choices::store;
 use crate::square::row_into;
 use crate::square::square_into;
+use bytes::cast::byte_to_cell;
 use least::NO_WAY;
 use least::Rule;
 use least::pick;
@@ -18,7 +19,7 @@ ghost use Rattle.least.specs.Row.{Ready, Light};
 ghost use Rattle.trellis.specs.Stepped.{Stepped};
 ghost use Rattle.trellis.specs.Pass.{PassOf, «pass-problem»};
 
-// One scan, from its squares: what lies ahead of each setting before it, and the choices.
+// One scan, from its squares, which are closed and weighed: what lies ahead of each setting before it, and the choices.
 fn step(
     rates: [[u32; 16]; 16],
     distortions: [[u32; 16]; 16],
@@ -60,24 +61,36 @@ pub fn pass(
     rule: Rule,
     rates: &[u32],
     distortions: &[u32],
+    weights: &[u8],
     scratch: &mut [u8],
 ) -> bool
-    requires { ⌜ Fit scans settings (now rates) (now distortions) (length (now scratch)) ⌝ }
+    requires { ⌜ Fit scans settings (now rates) (now distortions) (now weights) (length (now scratch)) ⌝ }
     requires { ⌜ Light rule ⌝ }
-    ensures { λ r. ⌜ PassOf (pass-problem (rule .ceiling) (table scans settings law (now (rates .entry)) (now (distortions .entry)))) scans settings rule (now (scratch .entry)) (now (scratch .exit)) r ⌝ }
+    ensures { λ r. ⌜ PassOf (pass-problem (rule .ceiling) (table scans settings law (now (rates .entry)) (now (distortions .entry)) (now (weights .entry)))) scans settings rule (now (scratch .entry)) (now (scratch .exit)) r ⌝ }
 {
     let mut keys = [0u64; 16];
     let mut rate_square = [[0u32; 16]; 16];
-    let mut distortion_square = [[0u32; 16]; 16];
+    let mut counted_square = [[0u32; 16]; 16];
     let size = settings * settings;
+    let ceiling = rule.ceiling;
     let mut i = scans - 1;
     while 0 < i {
-        let at = settings + (i - 1) * size;
-        square_into(&mut rate_square, rates, at, settings);
-        square_into(&mut distortion_square, distortions, at, settings);
+        let before = i - 1;
+        let at = settings + before * size;
+        let weight = byte_to_cell(weights[i]);
+        square_into(
+            &mut rate_square,
+            &mut counted_square,
+            rates,
+            distortions,
+            weight,
+            ceiling,
+            at,
+            settings,
+        );
         step(
             rate_square,
-            distortion_square,
+            counted_square,
             rule,
             law,
             &mut keys,
@@ -85,24 +98,25 @@ pub fn pass(
             i,
             settings,
         );
-        i -= 1;
+        i = before;
     }
     let mut row = [0u64; 16];
     let mut first_rates = [0u32; 16];
-    let mut first_distortions = [0u32; 16];
-    row_into(&mut first_rates, rates, 0, settings);
-    row_into(&mut first_distortions, distortions, 0, settings);
+    let mut first_counted = [0u32; 16];
+    let first_weight = byte_to_cell(weights[0]);
+    row_into(
+        &mut first_rates,
+        &mut first_counted,
+        rates,
+        distortions,
+        first_weight,
+        ceiling,
+        0,
+        settings,
+    );
     // Nothing stands before scan 0, so no law is asked there: every setting may.
     let end = settings;
-    let best = pick(
-        &mut row,
-        &first_rates,
-        &first_distortions,
-        rule,
-        &keys,
-        0,
-        end,
-    );
+    let best = pick(&mut row, &first_rates, &first_counted, rule, &keys, 0, end);
     store(scratch, settings, 0, 0, best.first);
     best.key.0 < NO_WAY
 }

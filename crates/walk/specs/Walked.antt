@@ -9,7 +9,8 @@ use Rattle.walk.specs.declared.Totals.{Totals}
 abbrev pub total-values : Totals → List ℕ
 total-values t = t .rate .0 ∷ t .distortion .0 ∷ t .peak ∷ []
 
--- "Its rate is the sum of its rate cells, its distortion the sum of its distortion cells, its peak the largest distortion cell."
+-- "Its rate is the sum of its rate cells, its distortion the sum of its distortion cells" (weighed: document 02, [5]), "its peak the largest
+-- distortion cell."
 pub record TotalsOf (P : Problem) (s : List ℕ) (t : Totals) : Type 0 where
   pub rate : t .rate .0 ≡ P .rate s
   pub distortion : t .distortion .0 ≡ P .distortion s

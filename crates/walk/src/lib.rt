@@ -1,4 +1,5 @@
 // Along the choices: what the sequence comes to, its settings handed over, and scratch wiped.
+use bytes::cast::byte_to_number;
 use bytes::cast::cell_to_number;
 use keys::cost::Dist;
 use keys::cost::Rate;
@@ -7,7 +8,7 @@ use tables::cells::scratch_need;
 use trellis::choices::read;
 ghost use mathlib.Core.Path.{_≡_};
 ghost use mathlib.Core.List.{_++_};
-ghost use Prim.Native.Nat.{ℕ, _+_, _≤_, _<_, _^_, max};
+ghost use Prim.Native.Nat.{ℕ, _+_, _*_, _≤_, _<_, _^_, max};
 ghost use lib.ListN.{getD, length, drop, replicate};
 ghost use Rattle.tables.specs.Limits.{«most-scans», «most-settings»};
 ghost use Rattle.tables.specs.Tables.{table, planning, «scratch-need»};
@@ -30,9 +31,17 @@ fn rate_of(cell: u32) -> Rate
 }
 
 fn distortion_of(cell: u32) -> Dist
-    ensures { λ r. ⌜ r .0 ≡ cell ⌝ }
+    ensures { λ r. ⌜ (r .0 ≡ cell) × (r .0 < 2 ^ 32) ⌝ }
 {
     Dist(cell_to_number(cell))
+}
+
+// The distortion that counts: a cell times the weight of its scan.
+fn weighed(weight: u64, cell: Dist) -> Dist
+    requires { ⌜ (weight < 256) × (cell .0 < 2 ^ 32) ⌝ }
+    ensures { λ r. ⌜ r .0 ≡ weight * cell .0 ⌝ }
+{
+    Dist(weight * cell.0)
 }
 
 fn larger(a: u64, b: u64) -> u64
@@ -63,11 +72,12 @@ pub fn total_up(
     law: u64,
     rates: &[u32],
     distortions: &[u32],
+    weights: &[u8],
     scratch: &[u8],
 ) -> Totals
-    requires { ⌜ Fit scans settings (now rates) (now distortions) (length (now scratch)) ⌝ }
-    requires { ⌜ planning (table scans settings law (now rates) (now distortions)) .allowed (chosen settings scans (now scratch)) ⌝ }
-    ensures { λ r. ⌜ TotalsOf (planning (table scans settings law (now (rates .entry)) (now (distortions .entry)))) (chosen settings scans (now (scratch .entry))) r ⌝ }
+    requires { ⌜ Fit scans settings (now rates) (now distortions) (now weights) (length (now scratch)) ⌝ }
+    requires { ⌜ planning (table scans settings law (now rates) (now distortions) (now weights)) .allowed (chosen settings scans (now scratch)) ⌝ }
+    ensures { λ r. ⌜ TotalsOf (planning (table scans settings law (now (rates .entry)) (now (distortions .entry)) (now (weights .entry)))) (chosen settings scans (now (scratch .entry))) r ⌝ }
 {
     let mut t = Totals {
         rate: Rate(0),
@@ -79,10 +89,12 @@ pub fn total_up(
         let q = read(scratch, settings, i, p);
         let at = number(settings as u64, i as u64, p as u64, q as u64) as usize;
         let rate = more_rate(t.rate, rate_of(rates[at]));
+        // The distortion takes what counts of a cell, and the peak the plain cell.
         let cell = distortion_of(distortions[at]);
+        let counts = weighed(byte_to_number(weights[i]), cell);
         t = Totals {
             rate,
-            distortion: more_distortion(t.distortion, cell),
+            distortion: more_distortion(t.distortion, counts),
             peak: larger(t.peak, cell.0),
         };
         p = q;

@@ -1,7 +1,7 @@
 -- What the lines leave in the buffer. Assumes nothing.
 use mathlib.Core.Path.{_≡_, refl, ap, _∙_}
 use mathlib.Core.List.{List, [], _∷_, _++_}
-use Prim.Native.Nat.{ℕ, _+_, _-_, _*_, _≤_, min}
+use Prim.Native.Nat.{ℕ, zero, suc, _+_, _-_, _*_, _≤_, min}
 use native.Mathlib.Omega.{arith}
 use lib.ListN.{length, take, drop, replicate, length-take}
 use lib.Seq.{sets, sets-eq, length-sets, take-at}
@@ -9,6 +9,7 @@ use Rattle.tables.specs.declared.refusal.Refusal.{Refusal}
 use Rattle.checks.specs.Planning.{asking}
 use Rattle.printing.specs.Lines.{line, ave, minmax}
 use Rattle.laws.specs.Put.{Put}
+use Rattle.laws.proofs.Tests.{never}
 use Rattle.printing.specs.declared.line.Said.the-variants.{Refused}
 use Rattle.laws.proofs.PutLaws.{next}
 use Rattle.reading.specs.Fed.{Feeds}
@@ -26,15 +27,21 @@ prefix-long N plan h = let l : length (take N plan) ≡ min N (length plan) = le
 pub few-bytes : (N : ℕ) (plan : List ℕ) → N ≤ 1024 → 256 + 4 * length (take N plan) ≤ 4352
 few-bytes N plan h = let l : length (take N plan) ≡ min N (length plan) = length-take N plan in omega arith
 
+-- of many ones the first N
+front-ones : (N M : ℕ) → N ≤ M → take {A = ℕ} N (replicate M 1) ≡ replicate N 1
+front-ones zero M h = refl
+front-ones (suc n) zero h = never (omega arith)
+front-ones (suc n) (suc m) h = ap (λ (l : List ℕ). 1 ∷ l) (front-ones n m (omega arith))
+
 -- the line of the answer that a call gave
 pub given-line : {Answer : Type 0} (promise : PromiseOf Answer) (line-of : Answer → List ℕ → List ℕ) {N Q l B : ℕ}
     {rs ds before after plan scratch : List ℕ} {at r : ℕ} → N ≤ 1024 → (answer : Answer) →
-    promise (asking N Q l rs ds 1024 4096) B (replicate 1024 0) (replicate 4096 0) answer plan scratch →
+    promise (asking N Q l rs ds (take N (replicate 1024 1)) 1024 4096) B (replicate 1024 0) (replicate 4096 0) answer plan scratch →
     Put before at (line-of answer (take N plan)) after r → r ≤ at + (256 + 4 * length (take N plan)) →
     RightLine (PlannedLine promise line-of N Q l B rs ds) before at after r
 given-line promise line-of {N = N} {plan = plan} {scratch = scratch} small answer p u h = record {
   line = line-of answer (take N plan);
-  right = record { given = answer; plan = plan; scratch = scratch; kept = p; written = refl };
+  right = record { given = answer; plan = plan; scratch = scratch; kept = rw (front-ones N 1024 small) at p; written = refl };
   put = u;
   short = omega (arith, few-bytes N plan small);
 }

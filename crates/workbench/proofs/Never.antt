@@ -1,4 +1,4 @@
--- bench never writes refusal 5 or 6: what it plans has tables of the exact length and buffers that are long enough. Assumes nothing.
+-- bench never writes refusal 5 or 6: what it plans has tables and weights of the exact length and buffers that are long enough. Assumes nothing.
 use mathlib.Core.Path.{_≡_, refl, ap, _∙_}
 use mathlib.Core.Bool.{Bool, true, false, cond}
 use mathlib.Core.Option.{Option, none, some}
@@ -7,7 +7,7 @@ use Prim.Native.Nat.{ℕ, zero, suc, _+_, _-_, _*_, _≤_}
 use native.Mathlib.Nat.{mul-le-mul-left, mul-le-mul-right}
 use native.Mathlib.Omega.{arith}
 use lib.Dec.{eqb, ltb}
-use lib.ListN.{length, getD, take, drop, length-drop}
+use lib.ListN.{length, getD, take, drop, replicate, length-drop, length-replicate}
 use lib.Seq.{length-take-le}
 use borrow.Author.Tests.{le-ltb, lt-ltb}
 use Rattle.laws.proofs.Tests.{cases}
@@ -72,7 +72,7 @@ abbrev Fits : Request → Type 0
 Fits bad-input = Unit {0}
 Fits (out-of-range r) = OneToThree r
 Fits too-large = Unit {0}
-Fits (to-plan N Q law B rates distortions) = SizesFit (asking N Q law rates distortions 1024 4096)
+Fits (to-plan N Q law B rates distortions) = SizesFit (asking N Q law rates distortions (replicate N 1) 1024 4096)
 
 module _ (N Q law B : ℕ) where
   -- the cells of both tables, where they are not too many
@@ -81,6 +81,7 @@ module _ (N Q law B : ℕ) where
   cells-fit h g (some l) long = record {
     rates-long = length-take-le (cells N Q) l (omega arith);
     distortions-long = length-drop (cells N Q) l ∙ omega arith;
+    weights-long = length-replicate N 1;
     plan-room = h;
     scratch-room = omega (arith, need-in-cells N Q);
   }
@@ -128,9 +129,9 @@ request-fits text = of (first 4 (words text))
 pub range-refused : (text : List ℕ) {r : Refusal} → request text ≡ out-of-range r → (1 ≤ numberOf r) × (numberOf r ≤ 3)
 range-refused text {r} e = let h : Fits (out-of-range r) = (rw e at (request-fits text)) in h
 
--- What is planned has tables of the exact length, and the buffers of bench are long enough for it.
+-- What is planned has tables and weights of the exact length, and the buffers of bench are long enough for it.
 pub plan-fits : (text : List ℕ) {N Q law B : ℕ} {rates distortions : List ℕ} → request text ≡ to-plan N Q law B rates distortions →
-    SizesFit (asking N Q law rates distortions 1024 4096)
+    SizesFit (asking N Q law rates distortions (replicate N 1) 1024 4096)
 plan-fits text {N} {Q} {law} {B} {rates} {distortions} e =
     let h : Fits (to-plan N Q law B rates distortions) = (rw e at (request-fits text)) in h
 

@@ -14,13 +14,14 @@ use Rattle.workbench.specs.Request.{Request, request, bad-input, out-of-
 abbrev pub PromiseOf : Type 0 → Type 1
 PromiseOf Answer = Asked → ℕ → (plan scratch : List ℕ) → Answer → (plan′ scratch′ : List ℕ) → Type 0
 
--- the line of a table that is planned: that of some answer of the call, with buffers of zeros, large enough for every table that bench plans
+-- the line of a table that is planned: that of some answer of the call, with buffers of zeros, large enough for every table that bench plans;
+-- bench has no weights: all are 1
 pub record PlannedLine {Answer : Type 0} (promise : PromiseOf Answer) (line-of : Answer → List ℕ → List ℕ) (N Q law B : ℕ)
     (rates distortions line : List ℕ) : Type 0 where
   pub given : Answer
   pub plan : List ℕ
   pub scratch : List ℕ
-  pub kept : promise (asking N Q law rates distortions 1024 4096) B (replicate 1024 0) (replicate 4096 0) given plan scratch
+  pub kept : promise (asking N Q law rates distortions (replicate N 1) 1024 4096) B (replicate 1024 0) (replicate 4096 0) given plan scratch
   pub written : line ≡ line-of given (take N plan)
 
 -- the first line, of the average call

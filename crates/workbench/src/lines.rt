@@ -13,7 +13,7 @@ ghost use Rattle.workbench.specs.Request.{«out-of-range»};
 ghost use Rattle.workbench.specs.Parts.{Planable, RightLine, Holds, «plan-requested»};
 ghost use Rattle.workbench.specs.Written.{AveLine, MinmaxLine};
 
-// The first line of a table that is planned, with buffers of zeros that are large enough for every such table.
+// The first line of a table that is planned, with a weight of 1 for each scan and buffers of zeros that are large enough for every such table.
 fn average_at(
     scans: u64,
     settings: u64,
@@ -27,6 +27,8 @@ fn average_at(
     requires { ⌜ (scans ≤ 1024) × (at + 4352 ≤ length (now out)) ⌝ }
     ensures { λ r. ⌜ RightLine (AveLine scans settings law budget (now (rates .entry)) (now (distortions .entry))) (now (out .entry)) at (now (out .exit)) r ⌝ }
 {
+    let planned = scans as usize;
+    let ones = [1u8; 1024];
     let mut plan = [0u8; 1024];
     let mut scratch = [0u8; 4096];
     let answer = average_plan(
@@ -36,10 +38,10 @@ fn average_at(
         budget,
         rates,
         distortions,
+        &ones[..planned],
         &mut plan,
         &mut scratch,
     );
-    let planned = scans as usize;
     put_line(out, at, b"ave", average_said(answer), &plan[..planned])
 }
 
@@ -57,6 +59,8 @@ fn minmax_at(
     requires { ⌜ (scans ≤ 1024) × (at + 4352 ≤ length (now out)) ⌝ }
     ensures { λ r. ⌜ RightLine (MinmaxLine scans settings law budget (now (rates .entry)) (now (distortions .entry))) (now (out .entry)) at (now (out .exit)) r ⌝ }
 {
+    let planned = scans as usize;
+    let ones = [1u8; 1024];
     let mut plan = [0u8; 1024];
     let mut scratch = [0u8; 4096];
     let answer = minmax_plan(
@@ -66,10 +70,10 @@ fn minmax_at(
         budget,
         rates,
         distortions,
+        &ones[..planned],
         &mut plan,
         &mut scratch,
     );
-    let planned = scans as usize;
     put_line(out, at, b"minmax", minmax_said(answer), &plan[..planned])
 }
 

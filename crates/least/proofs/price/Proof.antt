@@ -24,14 +24,14 @@ cost-requires c κs = omega (
   weight-fits {w = c .before .cell-to-number3 .result} (c .before .before .before .cell-to-number .result) (omega arith) (omega arith),
 )
 
-shut-requires : tie.Need-shut-requires
-shut-requires c κs = search needs
-
 choose-requires : tie.Need-choose-requires
 choose-requires c κs = search needs
 
 returns : tie.Need-returns
-returns c = (let a = c .before .before .before .before .before .before .before .args in priced (a .rule) (a .plain)) (c .choose .ensures) (c .before .shut .ensures) (c .before .before .cost .ensures) (c .before .before .before .before .before .before .cell-to-number .ensures .0) (c .before .before .before .before .before .cell-to-number2 .ensures .0) (c .before .before .before .before .cell-to-number3 .ensures .0) (c .before .before .before .cell-to-number4 .ensures .0)
+returns c =
+    priced (c .before .before .before .before .before .before .args .rule) (c .choose .ensures) (c .before .cost .ensures)
+    (c .before .before .before .before .before .cell-to-number .ensures .0) (c .before .before .before .before .cell-to-number2 .ensures .0)
+    (c .before .before .before .cell-to-number3 .ensures .0) (c .before .before .cell-to-number4 .ensures .0)
 
 pub price-spec : {M : Type 1} → statement M
 price-spec =
@@ -42,6 +42,5 @@ price-spec =
     cell-to-number-requires-3
     cell-to-number-requires-4
     cost-requires
-    shut-requires
     choose-requires
     returns)

@@ -5,21 +5,25 @@ use Prim.Native.Nat.{_+_, _≤_, _-_}
 use native.Mathlib.Omega.{arith}
 use borrow.Author.Needs.{needs}
 use Rattle.legal.specs.Judged.{LowestInRun, run-illegal}
+use Rattle.legal.proofs.CellTests.{of-weight}
 use Rattle.legal.proofs.RunLaws.{KeptSoFar, none-yet, one-cell-more, run-all-legal, run-lowest}
 use Rattle.legal.proofs.judge_run.Statement.{statement}
 use Rattle.legal.proofs.judge_run.Tie as tie
 
 abbrev Inv-loop : tie.InvT-loop
-Inv-loop rates distortions from to cells lowest₀ far₀ lowest far = KeptSoFar rates distortions from far lowest × (far ≤ to - from)
+Inv-loop rates distortions from to weight tested cells lowest₀ far₀ lowest far = KeptSoFar (λ k. weight) rates distortions from far lowest × (far ≤ to - from)
 
 abbrev μ-loop : tie.MeasureT-loop
-μ-loop rates distortions from to cells lowest₀ far₀ lowest far = to - from - far
+μ-loop rates distortions from to weight tested cells lowest₀ far₀ lowest far = to - from - far
+
+heavy-requires : tie.Need-heavy-requires Inv-loop μ-loop
+heavy-requires c κs = search needs
 
 sub-cells : tie.Need-sub-cells Inv-loop μ-loop
 sub-cells c = search needs
 
 loop-holds : tie.Need-loop-holds Inv-loop μ-loop
-loop-holds c = (none-yet _ _ _, omega arith)
+loop-holds c = (none-yet _ _ _ _, omega arith)
 
 add-k : tie.Need-add-k Inv-loop μ-loop
 add-k c = search needs
@@ -40,7 +44,7 @@ cast-if-illegal : tie.Need-cast-if-illegal Inv-loop μ-loop
 cast-if-illegal c = search needs
 
 if-illegal-requires : tie.Need-if-illegal-requires Inv-loop μ-loop
-if-illegal-requires c κs = search needs
+if-illegal-requires c κs = let e = c .before .before .before .before .heavy .ensures in (omega (arith, e), omega (arith, e))
 
 lesser-requires : tie.Need-lesser-requires Inv-loop μ-loop
 lesser-requires c κs = search needs
@@ -52,22 +56,22 @@ loop-less : tie.Need-loop-less Inv-loop μ-loop
 loop-less c = search needs
 
 loop-again : tie.Need-loop-again Inv-loop μ-loop
-loop-again c = (rw (c .lesser .ensures) (one-cell-more _ _ (omega arith) (c .before .before .before .before .before .loop .inv .0) (c .before .if-illegal .ensures)), omega arith)
+loop-again c = (rw (c .lesser .ensures) (one-cell-more _ _ _ (omega arith) (c .before .before .before .before .before .loop .inv .0) (of-weight (rw (c .before .before .before .before .before .before .heavy .ensures) at (c .before .if-illegal .ensures)))), omega arith)
 
 -- the lowest that was kept, where one was, is a cell of the run
 lowest-kept : (c : tie.Else1 Inv-loop μ-loop) →
-    let a = c .before .before .before .before .before .args in
-    LowestInRun (now (a .rates)) (now (a .distortions)) (a .from) (a .to) (a .from + c .before .before .loop .lowest)
-lowest-kept c = run-lowest _ _ (c .before .before .loop .inv .0) (omega arith) (c .if1 .left)
+    let a = c .before .before .before .before .before .before .args in
+    LowestInRun (λ k. a .weight) (now (a .rates)) (now (a .distortions)) (a .from) (a .to) (a .from + c .before .before .loop .lowest)
+lowest-kept c = run-lowest _ _ _ (c .before .before .loop .inv .0) (omega arith) (c .if1 .left)
 
 returns : tie.Need-returns Inv-loop μ-loop
-returns c = run-all-legal _ _ (c .before .before .loop .inv .0) (omega arith) (omega arith) (c .if1 .taken)
+returns c = run-all-legal _ _ _ (c .before .before .loop .inv .0) (omega arith) (omega arith) (c .if1 .taken)
 
-cast-t18 : tie.Need-cast-t18 Inv-loop μ-loop
-cast-t18 c = omega (arith, lowest-kept c .inside)
+cast-t20 : tie.Need-cast-t20 Inv-loop μ-loop
+cast-t20 c = omega (arith, lowest-kept c .inside)
 
-add-t19 : tie.Need-add-t19 Inv-loop μ-loop
-add-t19 c = omega (arith, lowest-kept c .inside)
+add-t21 : tie.Need-add-t21 Inv-loop μ-loop
+add-t21 c = omega (arith, lowest-kept c .inside)
 
 returns-2 : tie.Need-returns-2 Inv-loop μ-loop
 returns-2 c = run-illegal (lowest-kept c)
@@ -78,6 +82,7 @@ judge-run-spec =
     (tie.spec
     Inv-loop
     μ-loop
+    heavy-requires
     sub-cells
     loop-holds
     add-k
@@ -92,6 +97,6 @@ judge-run-spec =
     loop-less
     loop-again
     returns
-    cast-t18
-    add-t19
+    cast-t20
+    add-t21
     returns-2)

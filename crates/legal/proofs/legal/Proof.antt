@@ -1,20 +1,23 @@
--- `legal::legal` meets its contract. Assumes nothing.
-use mathlib.Core.Path.{refl}
-use mathlib.Core.Logic.{inl, inr, ⊎-elim}
+-- `legal::legal` meets its contract: a capped distortion has 21 bits, so that its product fits. Assumes nothing.
+use native.Mathlib.Nat.{mul-le-mul-right}
 use native.Mathlib.Omega.{arith}
-use borrow.Author.Tests.{leb-true, le-leb}
-use Rattle.laws.proofs.Tests.{never}
+use borrow.Author.Needs.{needs}
+use Rattle.legal.proofs.CellTests.{passed, passes}
 use Rattle.legal.proofs.legal.Statement.{statement}
 use Rattle.legal.proofs.legal.Tie as tie
 
+capped-requires : tie.Need-capped-requires
+capped-requires c κs = search needs
+
+mul-result : tie.Need-mul-result
+mul-result c = omega (arith, mul-le-mul-right {m = c .before .args .heavy} {n = 255} (c .capped .result) (omega arith))
+
 returns : tie.Need-returns
-returns c = ((λ e. (inr (c .if1 .taken), inr (c .if1 .taken))), λ l. refl)
-
-returns-2 : tie.Need-returns-2
-returns-2 c = ((λ e. never cc), λ l. absurd (⊎-elim (λ h. omega arith) (λ h. omega arith) (l .0)))
-
-returns-3 : tie.Need-returns-3
-returns-3 c = ((λ e. (inl (omega arith), inl (leb-true _ _ e))), λ l. le-leb _ _ (⊎-elim (λ h. h) (λ h. absurd (omega arith)) (l .1)))
+returns c =
+    let a = c .before .args in (
+      passed (a .heavy) (a .rate) (a .distortion) (c .capped .result) (c .before .pre .0) (c .capped .ensures),
+      λ l. passes (a .heavy) (a .rate) (a .distortion) (c .capped .result) (c .before .pre .0) (c .capped .ensures) (l .0) (l .1),
+    )
 
 pub legal-spec : {M : Type 1} → statement M
-legal-spec = tie.close (tie.spec returns returns-2 returns-3)
+legal-spec = tie.close (tie.spec capped-requires mul-result returns)

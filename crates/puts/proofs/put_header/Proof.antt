@@ -20,7 +20,7 @@ use Rattle.puts.proofs.put_letters.Reads as put-letters-reads
 use Rattle.puts.proofs.seal.Reads as seal-reads
 use Rattle.puts.proofs.put_header.Lts as lts
 
--- the length after the eighth store
+-- the length after the ninth store
 eight-kept : (c : lts.After-put-eight (
   put-four-reads.Asked,
   put-four-reads.Learnt,
@@ -39,7 +39,7 @@ eight-kept : (c : lts.After-put-eight (
 ) reads.Pre reads.Post) →
     let s = c .before .before .before .before .before .before .before .before .before .before .before .before .before
     .before .before .before .before .before .before .before .before .before .before .before .before .before .before
-    .before .before .before .before in
+    .before .before .before .before .before .before .before .before in
     (512 ≤ length (c .put-eight .last .0)) × (length (c .put-eight .last .0) ≡ length (now (s .args .file)))
 eight-kept c = (omega arith, omega arith)
 
@@ -61,6 +61,9 @@ put-one-requires-2 c κs = search needs
 put-one-requires-3 : tie.Need-put-one-requires-3
 put-one-requires-3 c κs = search needs
 
+put-one-requires-4 : tie.Need-put-one-requires-4
+put-one-requires-4 c κs = search needs
+
 put-zeros-requires : tie.Need-put-zeros-requires
 put-zeros-requires c κs = search needs
 
@@ -68,7 +71,7 @@ put-eight-requires : tie.Need-put-eight-requires
 put-eight-requires c κs = search needs
 
 put-four-requires-2 : tie.Need-put-four-requires-2
-put-four-requires-2 c κs = search needs
+put-four-requires-2 c κs = omega (arith, eight-kept (c .before .before .before))
 
 put-four-requires-3 : tie.Need-put-four-requires-3
 put-four-requires-3 c κs = omega (arith, eight-kept (c .before .before .before .before .before .before .before))
@@ -130,7 +133,8 @@ same-length c = omega (
 
 returns : tie.Need-returns
 returns c =
-    let c₁₅ = c .before .before .before .before .before .before in
+    let c₁₆ = c .before .before .before .before .before .before in
+    let c₁₅ = c₁₆ .before .before .before .before in
     let c₁₄ = c₁₅ .before .before .before .before in
     let c₁₃ = c₁₄ .before .before .before .before in
     let c₁₂ = c₁₃ .before .before .before .before in
@@ -149,12 +153,13 @@ returns c =
     let d = now (s .args .file) in
     let f = s .args .f in
     with-check qpl2 d (header qpl2 f) _ _ 0 (omega (arith, s .pre))
-    (header-stored qpl2 f d _ _ _ _ _ _ _ _ _ _ _ _ _ _ _
+    (header-stored qpl2 f d _ _ _ _ _ _ _ _ _ _ _ _ _ _ _ _
     (c₁ .put-four .ensures) (c₂ .put-letters .ensures) (c₃ .put-two .ensures)
     (c₄ .put-one .ensures) (c₅ .put-one2 .ensures) (c₆ .put-one3 .ensures)
-    (c₇ .put-zeros .ensures) (c₈ .put-eight .ensures) (c₉ .put-four2 .ensures)
-    (c₁₀ .put-four3 .ensures) (c₁₁ .put-four4 .ensures) (c₁₂ .put-four5 .ensures)
-    (c₁₃ .put-four6 .ensures) (c₁₄ .put-four7 .ensures) (c₁₅ .put-zeros2 .ensures))
+    (c₇ .put-one4 .ensures) (c₈ .put-zeros .ensures) (c₉ .put-eight .ensures)
+    (c₁₀ .put-four2 .ensures) (c₁₁ .put-four3 .ensures) (c₁₂ .put-four4 .ensures)
+    (c₁₃ .put-four5 .ensures) (c₁₄ .put-four6 .ensures) (c₁₅ .put-four7 .ensures)
+    (c₁₆ .put-zeros2 .ensures))
     (c .before .before .seal .ensures)
 
 pub put-header-spec : {M : Type 1} → statement M
@@ -167,6 +172,7 @@ put-header-spec =
     put-one-requires
     put-one-requires-2
     put-one-requires-3
+    put-one-requires-4
     put-zeros-requires
     put-eight-requires
     put-four-requires-2

@@ -13,7 +13,7 @@ use Rattle.qpl.proofs.qpl_average.Statement.{statement}
 use Rattle.qpl.proofs.qpl_average.Tie as tie
 
 abbrev problem : tie.Start → Problem
-problem s = planning (table (s .args .scans) (s .args .settings) (s .args .law) (s .args .rates .now) (s .args .distortions .now))
+problem s = planning (table (s .args .scans) (s .args .settings) (s .args .law) (s .args .rates .now) (s .args .distortions .now) (s .args .weights .now))
 
 lent-requires : tie.Need-lent-requires
 lent-requires c κs = search needs
@@ -35,7 +35,7 @@ tell-requires c κs =
     let said = c .before in
     let called = said .before .before .before .before .before in
     let lends = called .before .before .before in
-    let start = lends .before .before .before .before .before .before in
+    let start = lends .before .before .before .before .before .before .before in
     let a = start .args in (
       said .average-answer .ensures .1,
       planning-tellable average-reply (called .average-plan .result) 48 (now (a .answer)) (now (a .plan)) {within = InBudget (problem start) (a .budget)} {Plan = IsAveragePlan (problem start) (a .budget)} (lends .lent .ensures) (called .average-plan .ensures)
@@ -57,7 +57,7 @@ returns c =
     let said = told .before .before in
     let called = said .before .before .before .before .before in
     let lends = called .before .before .before in
-    let start = lends .before .before .before .before .before .before in
+    let start = lends .before .before .before .before .before .before .before in
     let a = start .args in
     planning-tells average-reply (called .average-plan .result) 48 (now (a .answer)) (now (a .plan)) {within = InBudget (problem start) (a .budget)} {Plan = IsAveragePlan (problem start) (a .budget)} (lends .lent .ensures) (called .average-plan .ensures)
     (said .average-answer .ensures .0) (told .tell .ensures)

@@ -13,7 +13,7 @@ use Rattle.qpl.proofs.qpl_minmax.Statement.{statement}
 use Rattle.qpl.proofs.qpl_minmax.Tie as tie
 
 abbrev problem : tie.Start → Problem
-problem s = planning (table (s .args .scans) (s .args .settings) (s .args .law) (s .args .rates .now) (s .args .distortions .now))
+problem s = planning (table (s .args .scans) (s .args .settings) (s .args .law) (s .args .rates .now) (s .args .distortions .now) (s .args .weights .now))
 
 lent-requires : tie.Need-lent-requires
 lent-requires c κs = search needs
@@ -35,7 +35,7 @@ tell-requires c κs =
     let said = c .before in
     let called = said .before .before .before .before .before in
     let lends = called .before .before .before in
-    let start = lends .before .before .before .before .before .before in
+    let start = lends .before .before .before .before .before .before .before in
     let a = start .args in (
       said .minmax-answer .ensures .1,
       planning-tellable minmax-reply (called .minmax-plan .result) 32 (now (a .answer)) (now (a .plan)) {within = InBudget (problem start) (a .budget)} {Plan = IsMinmaxPlan (problem start) (a .budget)} (lends .lent .ensures) (called .minmax-plan .ensures)
@@ -57,7 +57,7 @@ returns c =
     let said = told .before .before in
     let called = said .before .before .before .before .before in
     let lends = called .before .before .before in
-    let start = lends .before .before .before .before .before .before in
+    let start = lends .before .before .before .before .before .before .before in
     let a = start .args in
     planning-tells minmax-reply (called .minmax-plan .result) 32 (now (a .answer)) (now (a .plan)) {within = InBudget (problem start) (a .budget)} {Plan = IsMinmaxPlan (problem start) (a .budget)} (lends .lent .ensures) (called .minmax-plan .ensures)
     (said .minmax-answer .ensures .0) (told .tell .ensures)

@@ -17,7 +17,7 @@ use Rattle.qpl.proofs.qpl_multiplier.Statement.{statement}
 use Rattle.qpl.proofs.qpl_multiplier.Tie as tie
 
 abbrev problem : tie.Start → Problem
-problem s = planning (table (s .args .scans) (s .args .settings) (s .args .law) (s .args .rates .now) (s .args .distortions .now))
+problem s = planning (table (s .args .scans) (s .args .settings) (s .args .law) (s .args .rates .now) (s .args .distortions .now) (s .args .weights .now))
 
 lent-requires : tie.Need-lent-requires
 lent-requires c κs = search needs
@@ -39,7 +39,7 @@ tell-requires c κs =
     let said = c .before in
     let called = said .before .before .before .before .before in
     let lends = called .before .before .before in
-    let start = lends .before .before .before .before .before .before in
+    let start = lends .before .before .before .before .before .before .before in
     let a = start .args in (
       said .plan-answer .ensures .1,
       planning-tellable plan-reply (called .multiplier-plan .result) 24 (now (a .answer)) (now (a .plan)) {within = problem start .allowed} {Plan = IsMultiplierPlan (problem start) (a .n) (a .d)} (lends .lent .ensures) (called .multiplier-plan .ensures)
@@ -61,7 +61,7 @@ returns c =
     let said = told .before .before in
     let called = said .before .before .before .before .before in
     let lends = called .before .before .before in
-    let start = lends .before .before .before .before .before .before in
+    let start = lends .before .before .before .before .before .before .before in
     let a = start .args in
     planning-tells plan-reply (called .multiplier-plan .result) 24 (now (a .answer)) (now (a .plan)) {within = problem start .allowed} {Plan = IsMultiplierPlan (problem start) (a .n) (a .d)} (lends .lent .ensures) (called .multiplier-plan .ensures)
     (said .plan-answer .ensures .0) (told .tell .ensures)

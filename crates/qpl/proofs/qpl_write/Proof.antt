@@ -27,7 +27,7 @@ word-requires c κs =
     let told = c .before .told .given in
     let e = sym (c .before .before .before .before .before .write-plan .ensures .0) ∙ ap write-reply (told .1) in
     write-carries
-    (fields-told (a .scans) (a .settings) (a .law) (a .kind) (a .budget) (a .n) (a .d) (a .rate) (a .distortion) (a .peak) (a .floor))
+    (fields-told (a .scans) (a .settings) (a .law) (a .kind) (a .budget) (a .n) (a .d) (a .rate) (a .distortion) (a .peak) (a .floor) (a .weighted))
     (now (a .plan)) (length (now (a .file))) (told .0 .0) e
 
 same-length : tie.Need-same-length

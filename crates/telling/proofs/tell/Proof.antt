@@ -16,7 +16,7 @@ put-values-requires : tie.Need-put-values-requires
 put-values-requires c κs =
     let start = c .before .before .before .before .before in
     let told = start .args .told in
-    let long : length (told .values) ≡ 12 = search needs in
+    let long : length (told .values) ≡ 13 = search needs in
     let fits = tellable-answer (take (told .count) (told .values)) (ended-as told (c .before .before .enum-told .given .1)) (start .pre .1) in
     (start .pre .0, omega (arith, fits, long, length-take-le (told .count) (told .values) (omega (arith, long, start .pre .0))))
 

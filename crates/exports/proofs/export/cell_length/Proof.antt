@@ -2,7 +2,7 @@
 use mathlib.Core.Path.{sym, ap}
 use native.Mathlib.Omega.{arith}
 use lib.ListN.{length}
-use Rattle.exports.proofs.CellLaws.{no-line, its-line, seven-digits}
+use Rattle.exports.proofs.CellLaws.{no-line, its-line, seven-digits, plain-beside}
 use borrow.Author.Needs.{needs}
 use Rattle.exports.proofs.export.cell_length.Statement.{statement}
 use Rattle.exports.proofs.export.cell_length.Tie as tie
@@ -21,7 +21,7 @@ line-length-requires c κs =
     let s = c .before .before .before in
     let n = c .before .before .if1 .left in
     let r = seven-digits (s .pre .1 .0) n in
-    let d = seven-digits (s .pre .1 .1) n in
+    let d = seven-digits (plain-beside (s .pre .1 .1)) n in
     (omega arith, (omega arith, (omega arith, (omega (arith, c .before .cell-to-number .ensures .0), omega (arith, c .cell-to-number2 .ensures .0)))))
 
 returns-2 : tie.Need-returns-2

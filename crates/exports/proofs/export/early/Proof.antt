@@ -2,10 +2,14 @@
 use mathlib.Core.Path.{_≡_, sym, ap, _∙_}
 use mathlib.Core.Option.{Option}
 use mathlib.Core.List.{List}
+use Prim.Native.Nat.{_≤_}
+use native.Mathlib.Omega.{arith}
 use lib.ListN.{take, drop}
 use denote.Ref.{now}
 use Rattle.tables.specs.declared.refusal.Refusal.{Refusal}
 use Rattle.tables.specs.declared.refusal.Refusal.the-variants as refusal
+use Rattle.tables.specs.Limits.{most-scans, most-settings}
+use Rattle.tables.proofs.CellLaws.{cells-small}
 use Rattle.checks.specs.Checks.{when, first-refusal}
 use Rattle.checks.specs.Planning.{lengths-out}
 use Rattle.checks.specs.Stages.{ended}
@@ -33,6 +37,16 @@ later c =
     let R = checks (c .before .before .before .before .before) in
     first-append (take 2 R) (drop 2 R) ∙ at-pass (drop 2 R) (ranged (c .before .before)) (c .enum-told .given .1)
 
+-- .. and the scans and the settings are within their limits
+in-ranges : (c : tie.After-enum-told) →
+    let a = c .before .before .before .before .before .args in
+    (1 ≤ a .scans) × ((a .scans ≤ most-scans) × (a .settings ≤ most-settings))
+in-ranges c =
+    let R = checks (c .before .before .before .before .before) in
+    let p = all-pass (take 2 R) (passed-none (ranged (c .before .before)) (c .enum-told .given .1)) in
+    let n = in-range (none-when _ _ (p .0)) in
+    (n .0, (n .1, in-range (none-when _ _ (p .1 .0)) .1))
+
 -- the second stage ended as 5 does
 sized : (c : tie.After-unless) →
     let a = c .before .before .before .before .before .before .before .before .args in
@@ -54,10 +68,7 @@ returns c =
     at-stop (drop 2 R) (ranged (c .before .before)) (c .enum-told2 .given .1) ∙ sym (first-append (take 2 R) (drop 2 R))
 
 count-requires : tie.Need-count-requires
-count-requires c κs =
-    let p = all-pass (take 2 (checks (c .before .before .before .before .before))) (passed-none (ranged (c .before .before)) (c .enum-told .given .1)) in
-    let n = in-range (none-when _ _ (p .0)) in
-    (n .0, (n .1, in-range (none-when _ _ (p .1 .0)) .1))
+count-requires c κs = in-ranges c
 
 wrong-lengths-requires : tie.Need-wrong-lengths-requires
 wrong-lengths-requires c κs = search needs
@@ -76,18 +87,23 @@ returns-2 c =
     at-stop (drop 3 (checks (c .before .before .before .before .before .before .before .before .before .before))) (sized (c .before .before)) (c .enum-told4 .given .1)
     ∙ sym (later (c .before .before .before .before .before))
 
-check-cells-requires : tie.Need-check-cells-requires
-check-cells-requires c κs =
+judge-plain-requires : tie.Need-judge-plain-requires
+judge-plain-requires c κs =
     let a = c .before .before .before .before .before .before .before .before .before .before .args in
     let e = lengths-exact (a .scans) (a .settings) (now (a .rates)) (now (a .distortions)) (none-when _ _ (passed-none (sized (c .before .before)) (c .enum-told3 .given .1))) in
-    e .1 ∙ sym (e .0)
+    let n = in-ranges (c .before .before .before .before .before) in
+    (e .1 ∙ sym (e .0), omega (arith, e .0, cells-small {N = a .scans} {Q = a .settings} (n .1 .0) (n .1 .1)))
+
+legality-stage-requires : tie.Need-legality-stage-requires
+legality-stage-requires c κs = search needs
 
 -- .. and where that passed, the cells do
 returns-3 : tie.Need-returns-3
 returns-3 c =
-    let R = checks (c .before .before .before .before .before .before .before .before .before .before .before) in
-    sym (later (c .before .before .before .before .before .before)
-    ∙ at-pass (drop 3 R) (sized (c .before .before .before)) (c .before .enum-told3 .given .1) ∙ else-nothing _ ∙ judged-found _ _ (c .check-cells .ensures))
+    let R = checks (c .before .before .before .before .before .before .before .before .before .before .before .before) in
+    c .legality-stage .ensures ∙ sym (later (c .before .before .before .before .before .before .before)
+    ∙ at-pass (drop 3 R) (sized (c .before .before .before .before)) (c .before .before .enum-told3 .given .1)
+    ∙ else-nothing _ ∙ judged-found _ _ (c .before .judge-plain .ensures))
 
 pub early-spec : {M : Type 1} → statement M
 early-spec =
@@ -103,5 +119,6 @@ early-spec =
     enum-told-3
     enum-told-4
     returns-2
-    check-cells-requires
+    judge-plain-requires
+    legality-stage-requires
     returns-3)

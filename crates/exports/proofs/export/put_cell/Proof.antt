@@ -2,7 +2,7 @@
 use mathlib.Core.Path.{refl, ap}
 use native.Mathlib.Omega.{arith}
 use lib.ListN.{length}
-use Rattle.exports.proofs.CellLaws.{no-line, its-line, seven-digits}
+use Rattle.exports.proofs.CellLaws.{no-line, its-line, seven-digits, plain-beside}
 use borrow.Author.Needs.{needs}
 use Rattle.exports.proofs.export.put_cell.Statement.{statement}
 use Rattle.exports.proofs.export.put_cell.Tie as tie
@@ -21,7 +21,7 @@ put-line-requires c κs =
     let s = c .before .before .before .before .before in
     let n = c .before .before .before .if1 .left in
     let r = seven-digits (s .pre .0 .1 .0) n in
-    let d = seven-digits (s .pre .0 .1 .1) n in
+    let d = seven-digits (plain-beside (s .pre .0 .1 .1)) n in
     let l = ap length (its-line (s .args .p) (s .args .rate) (s .args .distortion) n) in
     rw (c .before .cell-to-number .ensures .0, c .cell-to-number2 .ensures .0) ((omega arith, (omega arith, (omega arith, (r, d)))), omega arith)
 

@@ -1,4 +1,4 @@
--- `file_cases::calls::write` is safe: the fields are eleven, and what is lent of each slice is no longer than it. Assumes nothing.
+-- `file_cases::calls::write` is safe: the fields are twelve, and what is lent of each slice is no longer than it. Assumes nothing.
 use lib.Seq.{length-take-le}
 use mathlib.Core.Path.{sym}
 use borrow.Author.Needs.{needs}

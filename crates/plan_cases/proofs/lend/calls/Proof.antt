@@ -6,10 +6,11 @@ use Rattle.plan_cases.proofs.lend.calls.Statement.{statement}
 use Rattle.plan_cases.proofs.lend.calls.Tie as tie
 
 abbrev Inv-loop : tie.InvT-loop
-Inv-loop case count rates distortions plan₀ scratch₀ left₀ plan scratch left = (length plan ≡ length plan₀) × (length scratch ≡ length scratch₀)
+Inv-loop case count rates distortions weights plan₀ scratch₀ left₀ plan scratch left =
+    (length plan ≡ length plan₀) × (length scratch ≡ length scratch₀)
 
 abbrev μ-loop : tie.MeasureT-loop
-μ-loop case count rates distortions plan₀ scratch₀ left₀ plan scratch left = left
+μ-loop case count rates distortions weights plan₀ scratch₀ left₀ plan scratch left = left
 
 loop-holds : tie.Need-loop-holds Inv-loop μ-loop
 loop-holds c = search needs

@@ -6,13 +6,15 @@ use Rattle.plan_cases.proofs.lend.every_group.Statement.{statement}
 use Rattle.plan_cases.proofs.lend.every_group.Tie as tie
 
 abbrev Inv-loop : tie.InvT-loop
-Inv-loop rates₀ distortions₀ plan₀ scratch₀ turns₀ rates distortions plan scratch turns = ((length rates ≡ length rates₀) × (length distortions ≡ length distortions₀)) × ((length plan ≡ length plan₀) × (length scratch ≡ length scratch₀))
+Inv-loop rates₀ distortions₀ weights₀ plan₀ scratch₀ turns₀ rates distortions weights plan scratch turns =
+    ((length rates ≡ length rates₀) × (length distortions ≡ length distortions₀))
+    × ((length weights ≡ length weights₀) × ((length plan ≡ length plan₀) × (length scratch ≡ length scratch₀)))
 
 abbrev μ-loop : tie.MeasureT-loop
-μ-loop rates₀ distortions₀ plan₀ scratch₀ turns₀ rates distortions plan scratch turns = turns
+μ-loop rates₀ distortions₀ weights₀ plan₀ scratch₀ turns₀ rates distortions weights plan scratch turns = turns
 
 loop-holds : tie.Need-loop-holds Inv-loop μ-loop
-loop-holds c = ((search needs, search needs), (search needs, search needs))
+loop-holds c = ((search needs, search needs), (search needs, (search needs, search needs)))
 
 group-requires : tie.Need-group-requires Inv-loop μ-loop
 group-requires c κs = search needs
@@ -24,7 +26,7 @@ loop-less : tie.Need-loop-less Inv-loop μ-loop
 loop-less c = search needs
 
 loop-again : tie.Need-loop-again Inv-loop μ-loop
-loop-again c = ((search needs, search needs), (search needs, search needs))
+loop-again c = ((search needs, search needs), (search needs, (search needs, search needs)))
 
 same-length : tie.Need-same-length Inv-loop μ-loop
 same-length c = search needs
@@ -38,11 +40,11 @@ same-length-3 c = search needs
 same-length-4 : tie.Need-same-length-4 Inv-loop μ-loop
 same-length-4 c = search needs
 
-returns : tie.Need-returns Inv-loop μ-loop
-returns c = search needs
-
 same-length-5 : tie.Need-same-length-5 Inv-loop μ-loop
 same-length-5 c = search needs
+
+returns : tie.Need-returns Inv-loop μ-loop
+returns c = search needs
 
 same-length-6 : tie.Need-same-length-6 Inv-loop μ-loop
 same-length-6 c = search needs
@@ -52,6 +54,12 @@ same-length-7 c = search needs
 
 same-length-8 : tie.Need-same-length-8 Inv-loop μ-loop
 same-length-8 c = search needs
+
+same-length-9 : tie.Need-same-length-9 Inv-loop μ-loop
+same-length-9 c = search needs
+
+same-length-10 : tie.Need-same-length-10 Inv-loop μ-loop
+same-length-10 c = search needs
 
 returns-2 : tie.Need-returns-2 Inv-loop μ-loop
 returns-2 c = search needs
@@ -71,9 +79,11 @@ every-group-spec =
     same-length-2
     same-length-3
     same-length-4
-    returns
     same-length-5
+    returns
     same-length-6
     same-length-7
     same-length-8
+    same-length-9
+    same-length-10
     returns-2)

@@ -47,6 +47,12 @@ least-requires-4 c κs = search needs
 word-requires-9 : tie.Need-word-requires-9
 word-requires-9 c κs = search needs
 
+count-weights-requires : tie.Need-count-weights-requires
+count-weights-requires c κs = search needs
+
+cells-source-requires : tie.Need-cells-source-requires
+cells-source-requires c κs = search needs
+
 slice-relend-prefix-made : tie.Need-slice-relend-prefix-made
 slice-relend-prefix-made c = search needs
 
@@ -65,6 +71,15 @@ slice-aggregate-made-2 c = sym (length-take-le _ _ (search needs))
 made-requires-2 : tie.Need-made-requires-2
 made-requires-2 c κs = search needs
 
+slice-relend-prefix-made-weights : tie.Need-slice-relend-prefix-made-weights
+slice-relend-prefix-made-weights c = search needs
+
+slice-aggregate-made-weights : tie.Need-slice-aggregate-made-weights
+slice-aggregate-made-weights c = sym (length-take-le _ _ (search needs))
+
+made-weights-requires : tie.Need-made-weights-requires
+made-weights-requires c κs = search needs
+
 slice-reshare-prefix-calls : tie.Need-slice-reshare-prefix-calls
 slice-reshare-prefix-calls c = search needs
 
@@ -77,17 +92,23 @@ slice-reshare-prefix-calls-2 c = search needs
 slice-aggregate-calls-2 : tie.Need-slice-aggregate-calls-2
 slice-aggregate-calls-2 c = sym (length-take-le _ _ (search needs))
 
-slice-relend-prefix-calls : tie.Need-slice-relend-prefix-calls
-slice-relend-prefix-calls c = search needs
+slice-reshare-prefix-calls-3 : tie.Need-slice-reshare-prefix-calls-3
+slice-reshare-prefix-calls-3 c = search needs
 
 slice-aggregate-calls-3 : tie.Need-slice-aggregate-calls-3
 slice-aggregate-calls-3 c = sym (length-take-le _ _ (search needs))
 
-slice-relend-prefix-calls-2 : tie.Need-slice-relend-prefix-calls-2
-slice-relend-prefix-calls-2 c = search needs
+slice-relend-prefix-calls : tie.Need-slice-relend-prefix-calls
+slice-relend-prefix-calls c = search needs
 
 slice-aggregate-calls-4 : tie.Need-slice-aggregate-calls-4
 slice-aggregate-calls-4 c = sym (length-take-le _ _ (search needs))
+
+slice-relend-prefix-calls-2 : tie.Need-slice-relend-prefix-calls-2
+slice-relend-prefix-calls-2 c = search needs
+
+slice-aggregate-calls-5 : tie.Need-slice-aggregate-calls-5
+slice-aggregate-calls-5 c = sym (length-take-le _ _ (search needs))
 
 calls-requires : tie.Need-calls-requires
 calls-requires c κs = search needs
@@ -103,6 +124,9 @@ same-length-3 c = search needs
 
 same-length-4 : tie.Need-same-length-4
 same-length-4 c = search needs
+
+same-length-5 : tie.Need-same-length-5
+same-length-5 c = search needs
 
 returns-2 : tie.Need-returns-2
 returns-2 c = search needs
@@ -125,23 +149,31 @@ group-spec =
     word-requires-8
     least-requires-4
     word-requires-9
+    count-weights-requires
+    cells-source-requires
     slice-relend-prefix-made
     slice-aggregate-made
     made-requires
     slice-relend-prefix-made-2
     slice-aggregate-made-2
     made-requires-2
+    slice-relend-prefix-made-weights
+    slice-aggregate-made-weights
+    made-weights-requires
     slice-reshare-prefix-calls
     slice-aggregate-calls
     slice-reshare-prefix-calls-2
     slice-aggregate-calls-2
-    slice-relend-prefix-calls
+    slice-reshare-prefix-calls-3
     slice-aggregate-calls-3
-    slice-relend-prefix-calls-2
+    slice-relend-prefix-calls
     slice-aggregate-calls-4
+    slice-relend-prefix-calls-2
+    slice-aggregate-calls-5
     calls-requires
     same-length
     same-length-2
     same-length-3
     same-length-4
+    same-length-5
     returns-2)

@@ -1,10 +1,6 @@
 -- `planfile::header::faults` meets its contract. Assumes nothing.
-use mathlib.Core.Path.{ap}
-use Prim.Native.Nat.{ℕ}
 use native.Mathlib.Omega.{arith}
-use lib.Dec.{eqb}
 use denote.Ref.{now}
-use Rattle.blocks.specs.Letters.{no-version}
 use Rattle.planfile.proofs.HeaderLaws.{told-faults}
 use borrow.Author.Needs.{needs}
 use Rattle.planfile.proofs.header.faults.Statement.{statement}
@@ -16,6 +12,9 @@ version-of-requires c κs = omega arith
 wrong-length-requires : tie.Need-wrong-length-requires
 wrong-length-requires c κs = search needs
 
+run-13-wrong-requires : tie.Need-run-13-wrong-requires
+run-13-wrong-requires c κs = search needs
+
 not-zero-requires : tie.Need-not-zero-requires
 not-zero-requires c κs = search needs
 
@@ -24,9 +23,10 @@ not-zero-requires-2 c κs = search needs
 
 returns : tie.Need-returns
 returns c =
-    let a = c .before .before .before .before .before .args in
-    told-faults (now (a .file)) (a .scans) (c .before .before .before .before .before .pre .1) (ap (λ (v : ℕ). eqb v no-version) (c .before .before .before .version-of .ensures))
-    (c .before .before .wrong-length .ensures) (c .before .not-zero .ensures) (c .not-zero2 .ensures)
+    let s = c .before .before .before .before .before .before in
+    told-faults (now (s .args .file)) (s .args .scans) (c .before .before .before .before .version-of .result) (s .pre .1)
+    (c .before .before .before .before .version-of .ensures) (c .before .before .before .wrong-length .ensures)
+    (c .before .before .run-13-wrong .ensures) (c .before .not-zero .ensures) (c .not-zero2 .ensures)
 
 pub faults-spec : {M : Type 1} → statement M
 faults-spec =
@@ -34,6 +34,7 @@ faults-spec =
     (tie.spec
     version-of-requires
     wrong-length-requires
+    run-13-wrong-requires
     not-zero-requires
     not-zero-requires-2
     returns)

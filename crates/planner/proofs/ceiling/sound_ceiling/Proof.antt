@@ -11,14 +11,14 @@ use Rattle.planner.proofs.ceiling.sound_ceiling.Statement.{statement}
 use Rattle.planner.proofs.ceiling.sound_ceiling.Tie as tie
 
 abbrev problem : tie.Start → Problem
-problem s = planning (table (s .args .scans) (s .args .settings) (s .args .law) (s .args .rates .now) (s .args .distortions .now))
+problem s = planning (table (s .args .scans) (s .args .settings) (s .args .law) (s .args .rates .now) (s .args .distortions .now) (s .args .weights .now))
 
 thrifty-pass-requires : tie.Need-thrifty-pass-requires
-thrifty-pass-requires c κs = sound-fit (c .before .before .before .before .before .pre)
+thrifty-pass-requires c κs = sound-fit (c .before .before .before .before .before .before .pre)
 
 finish-requires : tie.Need-finish-requires
 finish-requires c κs =
-    let s = c .before .before .before .before .before .before .before .before .before .before .before in
+    let s = c .before .before .before .before .before .before .before .before .before .before .before .before in
     let p = c .before .before .before .before .before .thrifty-pass .ensures in
     ((fit-framed (sound-fit (s .pre)) (p .framed), sound-plan (s .pre)), p .some (c .before .before .if1 .taken) .one .0)
 
@@ -32,15 +32,15 @@ returns : tie.Need-returns
 returns c =
     let p = c .before .before .before .before .before .before .before .before .before .before .thrifty-pass .ensures in
     let f = c .before .before .before .before .finish .ensures in
-    says-planned (c .before .before .before .before .before .before .before .before .before .before .before .before .before .before .before .before .pre) (p .framed) f (p .some (c .before .before .before .before .before .before .before .if1 .taken), values-are {P = problem (c .before .before .before .before .before .before .before .before .before .before .before .before .before .before .before .before)} (f .totals))
+    says-planned (c .before .before .before .before .before .before .before .before .before .before .before .before .before .before .before .before .before .pre) (p .framed) f (p .some (c .before .before .before .before .before .before .before .if1 .taken), values-are {P = problem (c .before .before .before .before .before .before .before .before .before .before .before .before .before .before .before .before .before)} (f .totals))
 
 thrifty-pass-requires-2 : tie.Need-thrifty-pass-requires-2
-thrifty-pass-requires-2 c κs = fit-framed (sound-fit (c .before .before .before .before .before .before .before .before .before .before .pre)) (c .before .before .before .before .thrifty-pass .ensures .framed)
+thrifty-pass-requires-2 c κs = fit-framed (sound-fit (c .before .before .before .before .before .before .before .before .before .before .before .pre)) (c .before .before .before .before .thrifty-pass .ensures .framed)
 
 -- where nothing was found, what the two passes leave and the end of the call
 returns-2 : tie.Need-returns-2
 returns-2 c =
-    let s = c .before .before .before .before .before .before .before .before .before .before .before .before .before .before .before .before .before .before .before .before .before in
+    let s = c .before .before .before .before .before .before .before .before .before .before .before .before .before .before .before .before .before .before .before .before .before .before in
     let p = c .before .before .before .before .before .before .before .before .before .before .before .before .before .before .before .thrifty-pass .ensures in
     let q = c .before .before .before .before .before .before .before .before .before .before .thrifty-pass2 .ensures in
     says-none-within (s .pre) (framed-on (p .framed) (q .framed)) (c .before .before .before .before .before .close .ensures)
@@ -48,7 +48,7 @@ returns-2 c =
 
 returns-3 : tie.Need-returns-3
 returns-3 c =
-    let s = c .before .before .before .before .before .before .before .before .before .before .before .before .before .before .before .before .before .before .before .before .before in
+    let s = c .before .before .before .before .before .before .before .before .before .before .before .before .before .before .before .before .before .before .before .before .before .before in
     let p = c .before .before .before .before .before .before .before .before .before .before .before .before .before .before .before .thrifty-pass .ensures in
     let q = c .before .before .before .before .before .before .before .before .before .before .thrifty-pass2 .ensures in
     says-none-allowed (s .pre) (framed-on (p .framed) (q .framed)) (c .before .before .before .before .before .close .ensures)
@@ -56,7 +56,7 @@ returns-3 c =
 
 close-requires : tie.Need-close-requires
 close-requires c κs =
-    let s = c .before .before .before .before .before .before .before .before .before .before .before .before .before .before .before in
+    let s = c .before .before .before .before .before .before .before .before .before .before .before .before .before .before .before .before in
     let fit = fit-framed (fit-framed (sound-fit (s .pre)) (c .before .before .before .before .before .before .before .before .before .thrifty-pass .ensures .framed)) (c .before .before .before .before .thrifty-pass2 .ensures .framed) in
     ((fit .scans, (fit .settings, (fit .room, sound-plan (s .pre)))), λ e i h. never cc)
 

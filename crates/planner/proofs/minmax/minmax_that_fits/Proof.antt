@@ -11,20 +11,20 @@ use Rattle.planner.proofs.minmax.minmax_that_fits.Statement.{statement}
 use Rattle.planner.proofs.minmax.minmax_that_fits.Tie as tie
 
 abbrev problem : tie.Start → Problem
-problem s = planning (table (s .args .scans) (s .args .settings) (s .args .law) (s .args .rates .now) (s .args .distortions .now))
+problem s = planning (table (s .args .scans) (s .args .settings) (s .args .law) (s .args .rates .now) (s .args .distortions .now) (s .args .weights .now))
 
 number-to-cell-requires : tie.Need-number-to-cell-requires
-number-to-cell-requires c κs = omega (arith, peak-bound (law-of (c .before .before .before .before .args .law)) (c .before .before .before .before .pre .0 .0) (c .before .before .before .before .pre .1))
+number-to-cell-requires c κs = omega (arith, peak-bound (law-of (c .before .before .before .before .before .args .law)) (c .before .before .before .before .before .pre .0 .0) (c .before .before .before .before .before .pre .1))
 
 least-ceiling-requires : tie.Need-least-ceiling-requires
-least-ceiling-requires c κs = (c .before .before .before .before .before .before .pre .0 .0, thrifty-fits (c .before .number-to-cell .ensures) (c .before .before .before .before .before .before .pre .1))
+least-ceiling-requires c κs = (c .before .before .before .before .before .before .before .pre .0 .0, thrifty-fits (c .before .number-to-cell .ensures) (c .before .before .before .before .before .before .before .pre .1))
 
 thrifty-pass-requires : tie.Need-thrifty-pass-requires
-thrifty-pass-requires c κs = fit-framed (c .before .before .before .before .before .before .before .before .before .before .pre .0 .0) (c .before .before .before .least-ceiling .ensures .framed)
+thrifty-pass-requires c κs = fit-framed (c .before .before .before .before .before .before .before .before .before .before .before .pre .0 .0) (c .before .before .before .least-ceiling .ensures .framed)
 
 finish-requires : tie.Need-finish-requires
 finish-requires c κs =
-    let s = c .before .before .before .before .before .before .before .before .before .before .before .before .before .before .before in
+    let s = c .before .before .before .before .before .before .before .before .before .before .before .before .before .before .before .before in
     let l = c .before .before .before .before .before .before .before .before .least-ceiling .ensures in
     let p = c .before .before .before .before .thrifty-pass .ensures in
     ((fit-framed (fit-framed (s .pre .0 .0) (l .framed)) (p .framed), s .pre .0 .1), pass-under {P = problem s} l p .one .0)
@@ -40,7 +40,7 @@ same-length-2 c = search needs
 
 returns : tie.Need-returns
 returns c =
-    let s = c .before .before .before .before .before .before .before .before .before .before .before .before .before .before .before .before .before .before .before .before .before in
+    let s = c .before .before .before .before .before .before .before .before .before .before .before .before .before .before .before .before .before .before .before .before .before .before in
     let l = c .before .before .before .before .before .before .before .before .before .before .before .before .before .before .least-ceiling .ensures in
     let p = c .before .before .before .before .before .before .before .before .before .before .thrifty-pass .ensures in
     let f = c .before .before .before .before .before .finish .ensures in

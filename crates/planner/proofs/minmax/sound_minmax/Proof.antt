@@ -9,17 +9,17 @@ use Rattle.planner.proofs.minmax.sound_minmax.Statement.{statement}
 use Rattle.planner.proofs.minmax.sound_minmax.Tie as tie
 
 abbrev problem : tie.Start → Problem
-problem s = planning (table (s .args .scans) (s .args .settings) (s .args .law) (s .args .rates .now) (s .args .distortions .now))
+problem s = planning (table (s .args .scans) (s .args .settings) (s .args .law) (s .args .rates .now) (s .args .distortions .now) (s .args .weights .now))
 
 start-requires : tie.Need-start-requires
-start-requires c κs = sound-fit (c .before .before .before .before .before .pre)
+start-requires c κs = sound-fit (c .before .before .before .before .before .before .pre)
 
 enum-known-started : tie.Need-enum-known-started
 enum-known-started c = search needs
 
 minmax-that-fits-requires : tie.Need-minmax-that-fits-requires
 minmax-that-fits-requires c κs =
-    let s = c .before .before .before .before .before .before .before .before .before .before .before .before .before in
+    let s = c .before .before .before .before .before .before .before .before .before .before .before .before .before .before in
     let h = started-plan {P = problem s} (c .before .before .before .before .before .before .before .start .ensures) (c .before .before .before .started .given .1) in
     ((fit-framed (sound-fit (s .pre)) (h .1), sound-plan (s .pre)), h .0)
 
@@ -34,13 +34,13 @@ same-length-2 c = search needs
 
 returns : tie.Need-returns
 returns c =
-    started-given (c .before .before .before .before .before .before .before .before .before .before .before .before .before .before .before .before .before .before .pre) (started-plan {P = problem (c .before .before .before .before .before .before .before .before .before .before .before .before .before .before .before .before .before .before)} (c .before .before .before .before .before .before .before .before .before .before .before .before .start .ensures) (c .before .before .before .before .before .before .before .before .started .given .1) .1) (c .before .before .before .before .minmax-that-fits .ensures)
+    started-given (c .before .before .before .before .before .before .before .before .before .before .before .before .before .before .before .before .before .before .before .pre) (started-plan {P = problem (c .before .before .before .before .before .before .before .before .before .before .before .before .before .before .before .before .before .before .before)} (c .before .before .before .before .before .before .before .before .before .before .before .before .start .ensures) (c .before .before .before .before .before .before .before .before .started .given .1) .1) (c .before .before .before .before .minmax-that-fits .ensures)
 
 same-length-3 : tie.Need-same-length-3
 same-length-3 c = search needs
 
 returns-2 : tie.Need-returns-2
-returns-2 c = started-refused (c .before .before .before .before .before .before .before .before .before .before .before .pre) (c .before .before .before .before .before .start .ensures) (c .before .started2 .given .1)
+returns-2 c = started-refused (c .before .before .before .before .before .before .before .before .before .before .before .before .pre) (c .before .before .before .before .before .start .ensures) (c .before .started2 .given .1)
 
 pub sound-minmax-spec : {M : Type 1} → statement M
 sound-minmax-spec =

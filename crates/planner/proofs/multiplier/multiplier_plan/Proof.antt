@@ -17,7 +17,7 @@ unless-requires : tie.Need-unless-requires
 unless-requires c κs = search needs
 
 -- the further check of the call is check 4
-fourth : (c : tie.After-unless) → let a = c .before .before .before .before .before .before .args in ended (c .unless .result) ≡ fourth-check (a .n) (a .d)
+fourth : (c : tie.After-unless) → let a = c .before .before .before .before .before .before .before .args in ended (c .unless .result) ≡ fourth-check (a .n) (a .d)
 fourth c = c .unless .ensures ∙ ap (λ (b : Bool). when b refusal.Multiplier) (c .before .multiplier-outside .ensures)
 
 check-requires : tie.Need-check-requires

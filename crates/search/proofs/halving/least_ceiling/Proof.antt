@@ -9,22 +9,22 @@ use Rattle.search.proofs.halving.least_ceiling.Statement.{statement}
 use Rattle.search.proofs.halving.least_ceiling.Tie as tie
 
 abbrev Inv-loop : tie.InvT-loop
-Inv-loop scans settings law budget high rates distortions scratch₀ low₀ least₀ scratch low least = (least ≤ high) × Halved (planning (table scans settings law rates distortions)) scans settings budget low least scratch₀ scratch
+Inv-loop scans settings law budget high rates distortions weights scratch₀ low₀ least₀ scratch low least = (least ≤ high) × Halved (planning (table scans settings law rates distortions weights)) scans settings budget low least scratch₀ scratch
 
 abbrev μ-loop : tie.MeasureT-loop
-μ-loop scans settings law budget high rates distortions scratch₀ low₀ least₀ scratch low least = least - low
+μ-loop scans settings law budget high rates distortions weights scratch₀ low₀ least₀ scratch low least = least - low
 
 loop-holds : tie.Need-loop-holds Inv-loop μ-loop
-loop-holds c = (omega arith, halved-start (c .before .before .before .pre .1))
+loop-holds c = (omega arith, halved-start (c .before .before .before .before .pre .1))
 
 sub-middle : tie.Need-sub-middle Inv-loop μ-loop
 sub-middle c = search needs
 
 add-middle : tie.Need-add-middle Inv-loop μ-loop
-add-middle c = omega (arith, c .before .before .before .before .before .fits .high)
+add-middle c = omega (arith, c .before .before .before .before .before .before .fits .high)
 
 some-fit-requires : tie.Need-some-fit-requires Inv-loop μ-loop
-some-fit-requires c κs = fit-framed (c .before .before .before .before .before .before .pre .0) (c .before .before .loop .inv .1 .framed)
+some-fit-requires c κs = fit-framed (c .before .before .before .before .before .before .before .pre .0) (c .before .before .loop .inv .1 .framed)
 
 loop-less : tie.Need-loop-less Inv-loop μ-loop
 loop-less c = omega arith
@@ -33,7 +33,7 @@ loop-again : tie.Need-loop-again Inv-loop μ-loop
 loop-again c = (omega arith, halved-down (c .before .before .before .before .before .before .loop .inv .1) (omega arith) (rw (c .if1 .taken) at (c .before .before .before .some-fit .ensures)))
 
 add-low : tie.Need-add-low Inv-loop μ-loop
-add-low c = omega (arith, c .before .before .before .before .before .before .before .before .before .before .fits .high)
+add-low c = omega (arith, c .before .before .before .before .before .before .before .before .before .before .before .fits .high)
 
 loop-less-2 : tie.Need-loop-less-2 Inv-loop μ-loop
 loop-less-2 c = search needs

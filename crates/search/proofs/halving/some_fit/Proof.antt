@@ -11,7 +11,7 @@ thrifty-pass-requires c κs = search needs
 total-up-requires : tie.Need-total-up-requires
 total-up-requires c κs =
     let p = c .before .before .before .before .thrifty-pass .ensures in
-    (fit-framed (c .before .before .before .before .before .before .before .before .before .pre) (p .framed), p .some (c .before .if1 .taken) .one .0)
+    (fit-framed (c .before .before .before .before .before .before .before .before .before .before .pre) (p .framed), p .some (c .before .if1 .taken) .one .0)
 
 same-length : tie.Need-same-length
 same-length c = search needs

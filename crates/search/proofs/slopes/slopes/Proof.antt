@@ -12,33 +12,33 @@ use Rattle.search.proofs.slopes.slopes.Statement.{statement}
 use Rattle.search.proofs.slopes.slopes.Tie as tie
 
 abbrev Inv-loop : tie.InvT-loop
-Inv-loop scans settings law budget rates distortions scratch₀ at₀ scratch at = Bracketed (planning (table scans settings law rates distortions)) budget (at .lo) (at .hi) × Framed (scratch-need scans settings) scratch₀ scratch
+Inv-loop scans settings law budget rates distortions weights scratch₀ at₀ scratch at = Bracketed (planning (table scans settings law rates distortions weights)) budget (at .lo) (at .hi) × Framed (scratch-need scans settings) scratch₀ scratch
 
 abbrev μ-loop : tie.MeasureT-loop
-μ-loop scans settings law budget rates distortions scratch₀ at₀ scratch at = at .hi .rate .0 - at .lo .rate .0
+μ-loop scans settings law budget rates distortions weights scratch₀ at₀ scratch at = at .hi .rate .0 - at .lo .rate .0
 
 abbrev problem : tie.Start Inv-loop μ-loop → Problem
-problem s = planning (table (s .args .scans) (s .args .settings) (s .args .law) (s .args .rates .now) (s .args .distortions .now))
+problem s = planning (table (s .args .scans) (s .args .settings) (s .args .law) (s .args .rates .now) (s .args .distortions .now) (s .args .weights .now))
 
 -- the next bracket, and that it is narrower
 next : (c : tie.After-narrowed Inv-loop μ-loop) → Bracketed
-    (problem (c .before .before .before .before .before .before .before .before .before .before .before .before .before .before))
-    (c .before .before .before .before .before .before .before .before .before .before .before .before .before .before .args .budget) (c .narrowed .result .lo) (c .narrowed .result .hi) ×
+    (problem (c .before .before .before .before .before .before .before .before .before .before .before .before .before .before .before))
+    (c .before .before .before .before .before .before .before .before .before .before .before .before .before .before .before .args .budget) (c .narrowed .result .lo) (c .narrowed .result .hi) ×
     (c .narrowed .result .hi .rate .0 - c .narrowed .result .lo .rate .0 < c .before .before .before .before .before .before .before .before .before .before .loop .at .hi .rate .0 - c .before .before .before .before .before .before .before .before .before .before .loop .at .lo .rate .0)
 next c =
     let i = c .before .before .before .before .before .before .before .before .before .before .loop .inv in
-    narrowed-more (i .0) (c .before .before .before .before .before .before .before .before .before .slope-of .ensures) (pass-finds {P = problem (c .before .before .before .before .before .before .before .before .before .before .before .before .before .before)} (c .before .before .before .before .before .before .before .multiplier-pass .ensures) (i .0 .lo-plan) (lo-allowed (i .0))) (c .before .before .before .total-up .ensures)
+    narrowed-more (i .0) (c .before .before .before .before .before .before .before .before .before .slope-of .ensures) (pass-finds {P = problem (c .before .before .before .before .before .before .before .before .before .before .before .before .before .before .before)} (c .before .before .before .before .before .before .before .multiplier-pass .ensures) (i .0 .lo-plan) (lo-allowed (i .0))) (c .before .before .before .total-up .ensures)
     (c .before .before .ties .ensures) (c .before .if1 .left) refl refl (c .narrowed .ensures)
 
 loop-holds : tie.Need-loop-holds Inv-loop μ-loop
-loop-holds c = (c .before .before .before .pre .1, framed-none _)
+loop-holds c = (c .before .before .before .before .pre .1, framed-none _)
 
 slope-of-requires : tie.Need-slope-of-requires Inv-loop μ-loop
 slope-of-requires c κs = (bracket-falls (c .loop .inv .0), bracket-rises (c .loop .inv .0))
 
 multiplier-pass-requires : tie.Need-multiplier-pass-requires Inv-loop μ-loop
 multiplier-pass-requires c κs =
-    let s = c .before .before .before .before .before .before in
+    let s = c .before .before .before .before .before .before .before in
     let i = c .before .before .loop .inv in
     (fit-framed (s .pre .0) (i .1), slope-small (i .0) (sums-small (law-of (s .args .law)) (s .pre .0)) (c .before .slope-of .ensures))
 
@@ -46,11 +46,11 @@ total-up-requires : tie.Need-total-up-requires Inv-loop μ-loop
 total-up-requires c κs =
     let i = c .before .before .before .before .before .before .loop .inv in
     let p = c .before .before .before .multiplier-pass .ensures in
-    (fit-framed (fit-framed (c .before .before .before .before .before .before .before .before .before .before .pre .0) (i .1)) (p .framed), pass-finds {P = problem (c .before .before .before .before .before .before .before .before .before .before)} p (i .0 .lo-plan) (lo-allowed (i .0)) .one)
+    (fit-framed (fit-framed (c .before .before .before .before .before .before .before .before .before .before .before .pre .0) (i .1)) (p .framed), pass-finds {P = problem (c .before .before .before .before .before .before .before .before .before .before .before)} p (i .0 .lo-plan) (lo-allowed (i .0)) .one)
 
 ties-requires : tie.Need-ties-requires Inv-loop μ-loop
 ties-requires c κs =
-    let s = c .before .before .before .before .before .before .before .before .before .before .before in
+    let s = c .before .before .before .before .before .before .before .before .before .before .before .before in
     let i = c .before .before .before .before .before .before .before .loop .inv in
     let small = sums-small (law-of (s .args .law)) (s .pre .0) in
     let l = slope-small (i .0) small (c .before .before .before .before .before .before .slope-of .ensures) in (
@@ -63,7 +63,7 @@ same-length c = framed-on (c .before .before .before .before .before .before .be
 
 returns : tie.Need-returns Inv-loop μ-loop
 returns c =
-    let s = c .before .before .before .before .before .before .before .before .before .before .before .before .before in
+    let s = c .before .before .before .before .before .before .before .before .before .before .before .before .before .before in
     let i = c .before .before .before .before .before .before .before .before .before .loop .inv in
     let p = c .before .before .before .before .before .before .multiplier-pass .ensures in
     let l = slope-small (i .0) (sums-small (law-of (s .args .law)) (s .pre .0)) (c .before .before .before .before .before .before .before .before .slope-of .ensures) in

@@ -12,10 +12,10 @@ total-up-requires c κs = search needs
 
 close-requires : tie.Need-close-requires
 close-requires c κs =
-    let s = c .before .before .before .before .before .before .before .before in
+    let s = c .before .before .before .before .before .before .before .before .before in
     let a = s .args in (
       (s .pre .0 .0 .scans, (s .pre .0 .0 .settings, (s .pre .0 .0 .room, s .pre .0 .1))),
-      λ e i h. kept-below (series (table (a .scans) (a .settings) (a .law) (a .rates .now) (a .distortions .now))) 0 0
+      λ e i h. kept-below (series (table (a .scans) (a .settings) (a .law) (a .rates .now) (a .distortions .now) (a .weights .now))) 0 0
           (chosen (a .settings) (a .scans) (a .scratch .now)) (s .pre .1 .1) i (omega (arith, s .pre .1 .0)),
     )
 

@@ -16,7 +16,7 @@ same-length c = search needs
 
 returns : tie.Need-returns
 returns c =
-    let s = c .before .before .before .before .before .before .before .before in
+    let s = c .before .before .before .before .before .before .before .before .before in
     multiplier-passed (law-of (s .args .law)) (s .pre .0) (s .args .n) (s .args .d) (c .before .before .before .before .weighing .ensures .0) (c .before .before .before .before .weighing .ensures .1) (c .before .before .pass .ensures)
 
 pub multiplier-pass-spec : {M : Type 1} → statement M

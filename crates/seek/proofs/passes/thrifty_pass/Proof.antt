@@ -13,7 +13,7 @@ same-length : tie.Need-same-length
 same-length c = search needs
 
 returns : tie.Need-returns
-returns c = let s = c .before .before .before .before .before .before .before in thrifty-passed (law-of (s .args .law)) (s .pre) refl refl (c .before .before .pass .ensures)
+returns c = let s = c .before .before .before .before .before .before .before .before in thrifty-passed (law-of (s .args .law)) (s .pre) refl refl (c .before .before .pass .ensures)
 
 pub thrifty-pass-spec : {M : Type 1} → statement M
 thrifty-pass-spec = tie.close (tie.spec pass-requires same-length returns)

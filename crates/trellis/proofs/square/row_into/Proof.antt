@@ -1,105 +1,91 @@
--- `trellis::square::row_into` meets its contract: every cell passed is stored. Assumes nothing.
+-- `trellis::square::row_into` meets its contract: every cell passed is stored, closed, and so is what counts beside it. Assumes nothing.
 use native.Mathlib.Omega.{arith}
 use borrow.Author.Needs.{needs}
-use mathlib.Core.Path.{_≡_, refl}
+use mathlib.Core.Path.{_≡_}
 use Prim.Native.Nat.{ℕ, _+_, _-_, _≤_, _<_}
 use lib.ListN.{length, getD, length-set}
 use Rattle.laws.proofs.Lists.{stored-more}
+use Rattle.trellis.specs.Square.{closed-cell, counted-cell}
 use Rattle.trellis.proofs.square.row_into.Statement.{statement}
 use Rattle.trellis.proofs.square.row_into.Tie as tie
 
 abbrev Inv-loop : tie.InvT-loop
-Inv-loop row₀ cells from k q₀ row q = (q ≤ 16) × ((length row ≡ 16) × ((r : ℕ) → 0 ≤ r → r < q → getD row r 0 ≡ getD cells (from + r) 0))
+Inv-loop row₀ counts₀ rates distortions weight ceiling from k q₀ row counts q =
+    (q ≤ k) × ((length row ≡ 16) × ((length counts ≡ 16) × (
+    ((r : ℕ) → 0 ≤ r → r < q → getD row r 0 ≡ closed-cell ceiling rates distortions (from + r)) ×
+    ((r : ℕ) → 0 ≤ r → r < q → getD counts r 0 ≡ counted-cell weight ceiling rates distortions (from + r)))))
 
 abbrev μ-loop : tie.MeasureT-loop
-μ-loop row₀ cells from k q₀ row q = 16 - q
+μ-loop row₀ counts₀ rates distortions weight ceiling from k q₀ row counts q = k - q
 
-abbrev Inv-loop2 : tie.InvT-loop2
-Inv-loop2 row₀ cells from k q₀ row q = (q ≤ k) × ((length row ≡ 16) × ((r : ℕ) → 0 ≤ r → r < q → getD row r 0 ≡ getD cells (from + r) 0))
+loop-holds : tie.Need-loop-holds Inv-loop μ-loop
+loop-holds c = let s = c .before .before in (omega arith, (s .pre .1 .0, (s .pre .1 .1, ((λ r h g. absurd (omega arith)), λ r h g. absurd (omega arith)))))
 
-abbrev μ-loop2 : tie.MeasureT-loop2
-μ-loop2 row₀ cells from k q₀ row q = k - q
+add-rate : tie.Need-add-rate Inv-loop μ-loop
+add-rate c = omega (arith, c .before .before .before .before .pre .0 .1 .in-rates)
 
-sub-if1 : tie.Need-sub-if1 Inv-loop μ-loop Inv-loop2 μ-loop2
-sub-if1 c = search needs
+mul-rate : tie.Need-mul-rate Inv-loop μ-loop
+mul-rate c = omega (arith, c .before .before .before .before .pre .0 .1 .in-rates)
 
-loop-holds : tie.Need-loop-holds Inv-loop μ-loop Inv-loop2 μ-loop2
-loop-holds c = (omega arith, (c .before .pre .1 .1, λ r h g. absurd (omega arith)))
+shared-slice-read-rate : tie.Need-shared-slice-read-rate Inv-loop μ-loop
+shared-slice-read-rate c = omega (arith, c .before .before .before .before .before .pre .0 .1 .in-rates)
 
-add-row : tie.Need-add-row Inv-loop μ-loop Inv-loop2 μ-loop2
-add-row c = search needs
+add-plain : tie.Need-add-plain Inv-loop μ-loop
+add-plain c = omega (arith, c .before .before .before .before .before .pre .0 .1 .in-distortions)
 
-mul-row : tie.Need-mul-row Inv-loop μ-loop Inv-loop2 μ-loop2
+mul-plain : tie.Need-mul-plain Inv-loop μ-loop
+mul-plain c = omega (arith, c .before .before .before .before .before .pre .0 .1 .in-distortions)
+
+shared-slice-read-plain : tie.Need-shared-slice-read-plain Inv-loop μ-loop
+shared-slice-read-plain c = omega (arith, c .before .before .before .before .before .before .pre .0 .1 .in-distortions)
+
+counted-requires : tie.Need-counted-requires Inv-loop μ-loop
+counted-requires c κs = c .before .before .before .before .before .before .pre .0 .1 .legal (c .before .before .before .loop .q) (c .before .before .loop-test .taken)
+
+closed-requires : tie.Need-closed-requires Inv-loop μ-loop
+closed-requires c κs = search needs
+
+mul-row : tie.Need-mul-row Inv-loop μ-loop
 mul-row c = search needs
 
-shared-slice-read-row : tie.Need-shared-slice-read-row Inv-loop μ-loop Inv-loop2 μ-loop2
-shared-slice-read-row c = search needs
-
-mul-row-2 : tie.Need-mul-row-2 Inv-loop μ-loop Inv-loop2 μ-loop2
-mul-row-2 c = search needs
-
-element-write-row : tie.Need-element-write-row Inv-loop μ-loop Inv-loop2 μ-loop2
+element-write-row : tie.Need-element-write-row Inv-loop μ-loop
 element-write-row c = search needs
 
-add-q : tie.Need-add-q Inv-loop μ-loop Inv-loop2 μ-loop2
+mul-counts : tie.Need-mul-counts Inv-loop μ-loop
+mul-counts c = search needs
+
+element-write-counts : tie.Need-element-write-counts Inv-loop μ-loop
+element-write-counts c = search needs
+
+add-q : tie.Need-add-q Inv-loop μ-loop
 add-q c = search needs
 
-loop-less : tie.Need-loop-less Inv-loop μ-loop Inv-loop2 μ-loop2
+loop-less : tie.Need-loop-less Inv-loop μ-loop
 loop-less c = search needs
 
-loop-again : tie.Need-loop-again Inv-loop μ-loop Inv-loop2 μ-loop2
+loop-again : tie.Need-loop-again Inv-loop μ-loop
 loop-again c =
-    let i = c .before .before .loop .inv in
-    let a = c .before .before .before .before .args in
-    let l : c .before .before .loop .q < length (c .before .before .loop .row) = omega (arith, i .1 .0) in (
-      omega arith,
+    let a = c .before .before .before .before .before .before .before .before .args in
+    let n = c .before .before .before .before .before .loop in
+    let i = n .inv in (
+      omega (arith, c .before .before .before .before .loop-test .taken),
       (
         simp length-set (i .1 .0),
-        stored-more 0 (λ (r : ℕ). getD (a .cells .now) (a .from + r) 0) (c .before .before .loop .row) (c .before .before .loop .q) _ l refl (i .1 .1),
+        (
+          simp length-set (i .1 .1 .0),
+          (
+            stored-more 0 (λ (r : ℕ). closed-cell (a .ceiling) (a .rates .now) (a .distortions .now) (a .from + r)) (n .row) (n .q) _ (omega (arith, i .1 .0)) (c .closed .ensures) (i .1 .1 .1 .0),
+            stored-more 0 (λ (r : ℕ). counted-cell (a .weight) (a .ceiling) (a .rates .now) (a .distortions .now) (a .from + r)) (n .counts) (n .q) _ (omega (arith, i .1 .1 .0)) (c .before .counted .ensures)
+                (i .1 .1 .1 .1),
+          ),
+        ),
       ),
     )
 
-loop2-holds : tie.Need-loop2-holds Inv-loop μ-loop Inv-loop2 μ-loop2
-loop2-holds c = (omega arith, (c .before .pre .1 .1, λ r h g. absurd (omega arith)))
-
-add-row-2 : tie.Need-add-row-2 Inv-loop μ-loop Inv-loop2 μ-loop2
-add-row-2 c = search needs
-
-mul-row-3 : tie.Need-mul-row-3 Inv-loop μ-loop Inv-loop2 μ-loop2
-mul-row-3 c = search needs
-
-shared-slice-read-row-2 : tie.Need-shared-slice-read-row-2 Inv-loop μ-loop Inv-loop2 μ-loop2
-shared-slice-read-row-2 c = search needs
-
-mul-row-4 : tie.Need-mul-row-4 Inv-loop μ-loop Inv-loop2 μ-loop2
-mul-row-4 c = search needs
-
-element-write-row-2 : tie.Need-element-write-row-2 Inv-loop μ-loop Inv-loop2 μ-loop2
-element-write-row-2 c = search needs
-
-add-q-2 : tie.Need-add-q-2 Inv-loop μ-loop Inv-loop2 μ-loop2
-add-q-2 c = search needs
-
-loop2-less : tie.Need-loop2-less Inv-loop μ-loop Inv-loop2 μ-loop2
-loop2-less c = search needs
-
-loop2-again : tie.Need-loop2-again Inv-loop μ-loop Inv-loop2 μ-loop2
-loop2-again c =
-    let i = c .before .before .loop2 .inv in
-    let a = c .before .before .before .before .args in
-    let l : c .before .before .loop2 .q < length (c .before .before .loop2 .row) = omega (arith, i .1 .0) in (
-      omega arith,
-      (
-        simp length-set (i .1 .0),
-        stored-more 0 (λ (r : ℕ). getD (a .cells .now) (a .from + r) 0) (c .before .before .loop2 .row) (c .before .before .loop2 .q) _ l refl (i .1 .1),
-      ),
-    )
-
-returns : tie.Need-returns Inv-loop μ-loop Inv-loop2 μ-loop2
-returns c = (c .before .loop .inv .1 .0, λ q h. c .before .loop .inv .1 .1 q (omega arith) (omega arith))
-
-returns-2 : tie.Need-returns-2 Inv-loop μ-loop Inv-loop2 μ-loop2
-returns-2 c = (c .before .loop2 .inv .1 .0, λ q h. c .before .loop2 .inv .1 .1 q (omega arith) (omega arith))
+returns : tie.Need-returns Inv-loop μ-loop
+returns c =
+    let i = c .before .loop .inv in
+    ((i .1 .0, i .1 .1 .0), ((λ q h. i .1 .1 .1 .0 q (omega arith) (omega (arith, c .loop-test .left))), λ q h. i .1 .1 .1 .1 q (omega arith) (omega (arith, c .loop-test .left))))
 
 pub row-into-spec : {M : Type 1} → statement M
 row-into-spec =
@@ -107,26 +93,20 @@ row-into-spec =
     (tie.spec
     Inv-loop
     μ-loop
-    Inv-loop2
-    μ-loop2
-    sub-if1
     loop-holds
-    add-row
+    add-rate
+    mul-rate
+    shared-slice-read-rate
+    add-plain
+    mul-plain
+    shared-slice-read-plain
+    counted-requires
+    closed-requires
     mul-row
-    shared-slice-read-row
-    mul-row-2
     element-write-row
+    mul-counts
+    element-write-counts
     add-q
     loop-less
     loop-again
-    loop2-holds
-    add-row-2
-    mul-row-3
-    shared-slice-read-row-2
-    mul-row-4
-    element-write-row-2
-    add-q-2
-    loop2-less
-    loop2-again
-    returns
-    returns-2)
+    returns)

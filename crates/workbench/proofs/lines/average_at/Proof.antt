@@ -7,11 +7,17 @@ use Rattle.workbench.proofs.LineLaws.{prefix-long, few-bytes, given-lin
 use Rattle.workbench.proofs.lines.average_at.Statement.{statement}
 use Rattle.workbench.proofs.lines.average_at.Tie as tie
 
+array-share-prefix-ones : tie.Need-array-share-prefix-ones
+array-share-prefix-ones c = search needs
+
 slice-aggregate-average-plan : tie.Need-slice-aggregate-average-plan
-slice-aggregate-average-plan c = search needs
+slice-aggregate-average-plan c = prefix-long _ _ (omega (arith, c .before .before .before .before .pre .0))
 
 slice-aggregate-average-plan-2 : tie.Need-slice-aggregate-average-plan-2
 slice-aggregate-average-plan-2 c = search needs
+
+slice-aggregate-average-plan-3 : tie.Need-slice-aggregate-average-plan-3
+slice-aggregate-average-plan-3 c = search needs
 
 average-plan-requires : tie.Need-average-plan-requires
 average-plan-requires c κs = search needs
@@ -31,8 +37,8 @@ slice-aggregate-put-line-2 c = prefix-long _ _ (omega (arith, c .before .before 
 put-line-requires : tie.Need-put-line-requires
 put-line-requires c κs =
     let called = c .before .before .before .before .before .before in
-    let start = called .before .before .before .before .before .before in
-    omega (arith, few-bytes (start .args .scans) (called .average-plan .last .1 .1 .1 .1 .1 .1 .0) (start .pre .0))
+    let start = called .before .before .before .before .before .before .before in
+    omega (arith, few-bytes (start .args .scans) (called .average-plan .last .1 .1 .1 .1 .1 .1 .1 .0) (start .pre .0))
 
 same-length : tie.Need-same-length
 same-length c = search needs
@@ -42,15 +48,18 @@ returns c =
     let line = c .before .before .put-line .ensures in
     let said = c .before .before .before .before .average-said .ensures in
     let called = c .before .before .before .before .before .before .before .before .before in
-    given-line AveragePromise ave-line (called .before .before .before .before .before .before .pre .0) (called .average-plan .result) (called .average-plan .ensures)
+    let start = called .before .before .before .before .before .before .before in
+    given-line AveragePromise ave-line (start .pre .0) (called .average-plan .result) (called .average-plan .ensures)
     (rw said at (line .0)) (omega arith)
 
 pub average-at-spec : {M : Type 1} → statement M
 average-at-spec =
     tie.close
     (tie.spec
+    array-share-prefix-ones
     slice-aggregate-average-plan
     slice-aggregate-average-plan-2
+    slice-aggregate-average-plan-3
     average-plan-requires
     slice-aggregate-put-line
     average-said-requires

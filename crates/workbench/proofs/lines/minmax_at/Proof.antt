@@ -7,11 +7,17 @@ use Rattle.workbench.proofs.LineLaws.{prefix-long, few-bytes, given-lin
 use Rattle.workbench.proofs.lines.minmax_at.Statement.{statement}
 use Rattle.workbench.proofs.lines.minmax_at.Tie as tie
 
+array-share-prefix-ones : tie.Need-array-share-prefix-ones
+array-share-prefix-ones c = search needs
+
 slice-aggregate-minmax-plan : tie.Need-slice-aggregate-minmax-plan
-slice-aggregate-minmax-plan c = search needs
+slice-aggregate-minmax-plan c = prefix-long _ _ (omega (arith, c .before .before .before .before .pre .0))
 
 slice-aggregate-minmax-plan-2 : tie.Need-slice-aggregate-minmax-plan-2
 slice-aggregate-minmax-plan-2 c = search needs
+
+slice-aggregate-minmax-plan-3 : tie.Need-slice-aggregate-minmax-plan-3
+slice-aggregate-minmax-plan-3 c = search needs
 
 minmax-plan-requires : tie.Need-minmax-plan-requires
 minmax-plan-requires c κs = search needs
@@ -31,8 +37,8 @@ slice-aggregate-put-line-2 c = prefix-long _ _ (omega (arith, c .before .before 
 put-line-requires : tie.Need-put-line-requires
 put-line-requires c κs =
     let called = c .before .before .before .before .before .before in
-    let start = called .before .before .before .before .before .before in
-    omega (arith, few-bytes (start .args .scans) (called .minmax-plan .last .1 .1 .1 .1 .1 .1 .0) (start .pre .0))
+    let start = called .before .before .before .before .before .before .before in
+    omega (arith, few-bytes (start .args .scans) (called .minmax-plan .last .1 .1 .1 .1 .1 .1 .1 .0) (start .pre .0))
 
 same-length : tie.Need-same-length
 same-length c = search needs
@@ -42,15 +48,18 @@ returns c =
     let line = c .before .before .put-line .ensures in
     let said = c .before .before .before .before .minmax-said .ensures in
     let called = c .before .before .before .before .before .before .before .before .before in
-    given-line MinmaxPromise minmax-line (called .before .before .before .before .before .before .pre .0) (called .minmax-plan .result) (called .minmax-plan .ensures)
+    let start = called .before .before .before .before .before .before .before in
+    given-line MinmaxPromise minmax-line (start .pre .0) (called .minmax-plan .result) (called .minmax-plan .ensures)
     (rw said at (line .0)) (omega arith)
 
 pub minmax-at-spec : {M : Type 1} → statement M
 minmax-at-spec =
     tie.close
     (tie.spec
+    array-share-prefix-ones
     slice-aggregate-minmax-plan
     slice-aggregate-minmax-plan-2
+    slice-aggregate-minmax-plan-3
     minmax-plan-requires
     slice-aggregate-put-line
     minmax-said-requires
