@@ -1,22 +1,24 @@
 /* Calls of the archive from standard input, what each gives back and leaves on standard output: the tests from outside compare it with the
  * second program. Each lent buffer is exactly as long as asked, between guard bytes, and filled with a pattern before the call; so are the
- * tables of an import, between guard cells (lent.h). The tables of an export stand between guard cells too, and the weights of a planning call
- * between guard bytes, and must be as they were.
+ * tables of an import and the totals of the true best, between guard cells (lent.h). The tables of an export and of the true best stand
+ * between guard cells too, and the weights of a call between guard bytes, and must be as they were.
  *
  * A call is words parted by blanks. Numbers are decimal; bytes are hexadecimal, or "-" for none.
  *   room CHANNELS SCANS SETTINGS ANSWER
  *   ceiling SCANS SETTINGS LAW X PLAN SCRATCH ANSWER RATES DISTORTIONS WEIGHTS cells.. weights..
  *   multiplier SCANS SETTINGS LAW N D PLAN SCRATCH ANSWER RATES DISTORTIONS WEIGHTS cells.. weights..
  *   minmax, average: SCANS SETTINGS LAW B PLAN SCRATCH ANSWER RATES DISTORTIONS WEIGHTS cells.. weights..
+ *   best SCANS SETTINGS LAW B PLAN CHOICES TOTALS ANSWER RATES DISTORTIONS WEIGHTS cells.. weights..
  *   read PLAN ANSWER bytes of the file
  *   write twelve fields FILE bytes of the settings
  *   import SCANS SETTINGS RATES DISTORTIONS bytes of scratch bytes of the text
  *   export SCANS SETTINGS TEXT ANSWER RATES DISTORTIONS cells..
- * where PLAN, SCRATCH, ANSWER, FILE and TEXT are lengths of buffers, RATES and DISTORTIONS are lengths of tables, and WEIGHTS says how many
- * weights there are; the fields are those of qpl_write in its order. Scratch is given to an import as bytes, since whatever it holds before
- * must not count.
- * A line of the output is the 64-bit number that came back, and every byte of every lent buffer in the order answer, plan, scratch, file,
- * text; of an import also every cell of rates and distortions, in decimal with commas between them, or "-" for none. */
+ * where PLAN, SCRATCH, CHOICES, ANSWER, FILE and TEXT are lengths of buffers, in bytes, RATES, DISTORTIONS and TOTALS are lengths of tables,
+ * in cells, and WEIGHTS says how many weights there are; the fields are those of qpl_write in its order. Scratch is given to an import as
+ * bytes, since whatever it holds before must not count.
+ * A line of the output is the 64-bit number that came back, and every byte of every lent buffer in the order answer, plan, scratch or choices,
+ * file, text; of an import also every cell of rates and distortions, and of the true best every cell of totals, in decimal with commas
+ * between them, or "-" for none. */
 #include "lent.h"
 #include "qpl.h"
 
@@ -162,6 +164,47 @@ static void plan(const char *which) {
     free(distortions);
 }
 
+/* Both tables between guard cells, and what they told before the call. */
+typedef struct {
+    lent_table rates, distortions;
+    uint64_t told[2];
+} both_tables;
+
+static both_tables given_tables(size_t rates_length, size_t distortions_length) {
+    both_tables b;
+    b.rates = given_table(rates_length);
+    b.distortions = given_table(distortions_length);
+    b.told[0] = told_of(&b.rates), b.told[1] = told_of(&b.distortions);
+    return b;
+}
+
+static void tables_kept(both_tables *b) {
+    if (!table_guarded(&b->rates) || !table_guarded(&b->distortions)) printf(" GUARD CELLS WRITTEN");
+    if (told_of(&b->rates) != b->told[0] || told_of(&b->distortions) != b->told[1]) printf(" TABLES WRITTEN");
+    give_table_back(&b->rates);
+    give_table_back(&b->distortions);
+}
+
+static void best(void) {
+    uint64_t scans = number(), settings = number(), law = number(), budget = number();
+    lent plan = lend(size(), PLAN_FROM), choices = lend(size(), SCRATCH_FROM);
+    lent_table totals = lend_table(size(), RATES_FROM);
+    lent answer = lend(size(), ANSWER_FROM);
+    size_t rates_length = size(), distortions_length = size(), weights_length = size();
+    both_tables tables = given_tables(rates_length, distortions_length);
+    lent weights = weights_given(weights_length);
+    read_only content = keep(weights);
+    printf("%" PRIu64, qpl_best(scans, settings, law, budget, tables.rates.cells, tables.rates.length, tables.distortions.cells,
+                                tables.distortions.length, weights.bytes, weights.length, plan.bytes, plan.length, choices.bytes,
+                                choices.length, totals.cells, totals.length, answer.bytes, answer.length));
+    show(&answer);
+    show(&plan);
+    show(&choices);
+    show_table(&totals);
+    tables_kept(&tables);
+    kept(&content);
+}
+
 static void read_file(void) {
     lent plan = lend(size(), PLAN_FROM), answer = lend(size(), ANSWER_FROM), file = bytes();
     read_only content = keep(file);
@@ -203,17 +246,12 @@ static void export_list(void) {
     uint64_t scans = number(), settings = number();
     lent text = lend(size(), PLAN_FROM), answer = lend(size(), ANSWER_FROM);
     size_t rates_length = size(), distortions_length = size();
-    lent_table rates = given_table(rates_length), distortions = given_table(distortions_length);
-    uint64_t told[2];
-    told[0] = told_of(&rates), told[1] = told_of(&distortions);
-    printf("%" PRIu64, qpl_export(scans, settings, rates.cells, rates.length, distortions.cells, distortions.length, text.bytes, text.length,
-                                  answer.bytes, answer.length));
+    both_tables tables = given_tables(rates_length, distortions_length);
+    printf("%" PRIu64, qpl_export(scans, settings, tables.rates.cells, tables.rates.length, tables.distortions.cells,
+                                  tables.distortions.length, text.bytes, text.length, answer.bytes, answer.length));
     show(&answer);
     show(&text);
-    if (!table_guarded(&rates) || !table_guarded(&distortions)) printf(" GUARD CELLS WRITTEN");
-    if (told_of(&rates) != told[0] || told_of(&distortions) != told[1]) printf(" TABLES WRITTEN");
-    give_table_back(&rates);
-    give_table_back(&distortions);
+    tables_kept(&tables);
 }
 
 int main(void) {
@@ -229,6 +267,8 @@ int main(void) {
             import_list();
         else if (strcmp(which, "export") == 0)
             export_list();
+        else if (strcmp(which, "best") == 0)
+            best();
         else if (strcmp(which, "ceiling") == 0 || strcmp(which, "multiplier") == 0 || strcmp(which, "minmax") == 0 ||
                  strcmp(which, "average") == 0)
             plan(which);

@@ -4,7 +4,8 @@
  *
  * The calls run on the largest tables, on small ones, with all weights 1 and with others, on refusals, and on n and d that are consecutive
  * Fibonacci numbers, on which the remainder rule of Euclid goes deepest: two functions of the library call themselves by it. Files are read
- * in both versions, and as QPL2 with the mark of weights too. Import and export run on the longest list, on short ones, and on refusals.
+ * in both versions, and as QPL2 with the mark of weights too. Import and export run on the longest list, on short ones, and on refusals. The
+ * true best runs on the largest series that it takes, on small ones, and on refusals.
  *
  * So that the measurement is not fooled: a byte that is written with the paint's own value shows under a second paint; a function that takes
  * no stack, and one that fills a known room of it, must come out so; and each call must give back what it should, and an import must leave
@@ -20,7 +21,7 @@
 #endif
 
 #define STACK 65536
-#define ARGUMENTS 17
+#define ARGUMENTS 18
 #define ROOM 4000
 #define SCANS 1024
 /* Of a plan file, as the writer takes them, with the mark of weights behind them; the reader answers the version and then the mark. */
@@ -30,7 +31,7 @@
 #define FIBONACCI 701408733
 #define FIBONACCI_BEFORE 433494437
 
-/* Calls f with these seventeen numbers, as C passes them, on the stack that ends at `top`. Where f takes fewer, it looks at the first ones. */
+/* Calls f with these eighteen numbers, as C passes them, on the stack that ends at `top`. Where f takes fewer, it looks at the first ones. */
 uint64_t called(void (*f)(void), const uint64_t *arguments, uint8_t *top);
 __asm__(".text\n"
         "called:\n"
@@ -38,7 +39,8 @@ __asm__(".text\n"
         "    movq %rsp, %rbp\n"
         "    movq %rdi, %rax\n"
         "    movq %rsi, %r10\n"
-        "    leaq -8(%rdx), %rsp\n"
+        "    movq %rdx, %rsp\n"
+        "    pushq 136(%r10)\n"
         "    pushq 128(%r10)\n"
         "    pushq 120(%r10)\n"
         "    pushq 112(%r10)\n"
@@ -60,7 +62,7 @@ __asm__(".text\n"
         "    movq %rbp, %rsp\n"
         "    popq %rbp\n"
         "    retq\n");
-/* What is pushed there before the call: eleven numbers, and eight bytes so that the stack is aligned. */
+/* What is pushed there before the call: twelve numbers, after which the stack is aligned. */
 #define PUSHED 96
 
 static const uint8_t paints[] = {0xa5, 0x3c};
@@ -68,6 +70,11 @@ static const uint8_t paints[] = {0xa5, 0x3c};
 static uint8_t stack[STACK + 16];
 static uint32_t rates[CELLS], distortions[CELLS];
 static uint8_t weights[SCANS], plan[SCANS], scratch[16 * SCANS], answer[QPL_READ_ANSWER], file[1536];
+/* Of the true best: the most scans and the largest budget that it takes, and what it borrows for them. */
+#define SHORT_SCANS 64
+#define SHORT_BUDGET 4095
+static uint8_t choices[SHORT_SCANS * 16 * (SHORT_BUDGET + 1)];
+static uint32_t totals[4 * 16 * (SHORT_BUDGET + 1)];
 /* Of a list: the longest that there is, with room for one line more; scratch, a byte for each cell; and the tables that an import fills. */
 #define LONGEST 6722470
 #define LINE 32
@@ -104,12 +111,13 @@ static size_t depth(void (*f)(void), const uint64_t *arguments, uint64_t *given)
 }
 
 /* The calls, the greatest depth of each so far, and how many runs it is of. */
-enum call { CALL_ROOM, CALL_READ, CALL_WRITE, CALL_CEILING, CALL_MULTIPLIER, CALL_MINMAX, CALL_AVERAGE, CALL_IMPORT, CALL_EXPORT, CALLS };
+enum call { CALL_ROOM, CALL_READ, CALL_WRITE, CALL_CEILING, CALL_MULTIPLIER, CALL_MINMAX, CALL_AVERAGE, CALL_IMPORT, CALL_EXPORT, CALL_BEST, CALLS };
 static const char *const names[] = {"qpl_room",   "qpl_read",    "qpl_write",  "qpl_ceiling", "qpl_multiplier",
-                                    "qpl_minmax", "qpl_average", "qpl_import", "qpl_export"};
+                                    "qpl_minmax", "qpl_average", "qpl_import", "qpl_export",  "qpl_best"};
 static void (*const functions[])(void) = {(void (*)(void))qpl_room,    (void (*)(void))qpl_read,       (void (*)(void))qpl_write,
                                           (void (*)(void))qpl_ceiling, (void (*)(void))qpl_multiplier, (void (*)(void))qpl_minmax,
-                                          (void (*)(void))qpl_average, (void (*)(void))qpl_import,     (void (*)(void))qpl_export};
+                                          (void (*)(void))qpl_average, (void (*)(void))qpl_import,     (void (*)(void))qpl_export,
+                                          (void (*)(void))qpl_best};
 static size_t deepest[CALLS], runs[CALLS];
 
 static void run(enum call which, const uint64_t *arguments, uint64_t right) {
@@ -315,6 +323,39 @@ static void run_lists(uint64_t scans, uint64_t settings) {
     run(CALL_IMPORT, reading, 16 | UINT64_C(2) << 32);
 }
 
+/* The true best on the tables as they are, with the rates made small enough that budgets matter: within the largest budget and within one that
+ * nothing meets, and refused. */
+static void run_best(uint64_t scans, uint64_t settings, uint64_t law) {
+    uint64_t cells = settings + (scans - 1) * settings * settings, least, k;
+    uint64_t arguments[ARGUMENTS] = {scans, settings, law, SHORT_BUDGET};
+    for (k = 0; k < cells; k++) rates[k] = 1 + rates[k] % 60;
+    arguments[4] = AT(rates), arguments[5] = cells, arguments[6] = AT(distortions), arguments[7] = cells;
+    arguments[8] = AT(weights), arguments[9] = scans, arguments[10] = AT(plan), arguments[11] = sizeof plan;
+    arguments[12] = AT(choices), arguments[13] = sizeof choices;
+    arguments[14] = AT(totals), arguments[15] = sizeof totals / sizeof *totals;
+    arguments[16] = AT(answer), arguments[17] = sizeof answer;
+    run(CALL_BEST, arguments, 0);
+    run_plan(CALL_CEILING, scans, settings, law, 1048575, 0, 0);
+    least = qpl_value(answer, QPL_CEILING_RATE);
+    arguments[3] = least;
+    run(CALL_BEST, arguments, 0);
+    expect("the true best within the least rate has that rate", qpl_value(answer, QPL_BEST_RATE) == least);
+    arguments[3] = least - 1;
+    run(CALL_BEST, arguments, 9);
+    arguments[3] = SHORT_BUDGET + 1;
+    run(CALL_BEST, arguments, 19);
+    arguments[3] = SHORT_BUDGET, arguments[9] = scans - 1;
+    run(CALL_BEST, arguments, 5);
+    arguments[9] = scans, arguments[15] = 4 * settings * (SHORT_BUDGET + 1) - 1;
+    run(CALL_BEST, arguments, 6);
+    arguments[15]++, rates[cells - 1] = 1048576;
+    run(CALL_BEST, arguments, 7 | (cells - 1) << 32);
+    for (k = 0; k < cells; k++) rates[k] = QPL_FORBIDDEN;
+    run(CALL_BEST, arguments, 8);
+    arguments[0] = SHORT_SCANS + 1;
+    run(CALL_BEST, arguments, 1);
+}
+
 /* A function that takes no stack but its return address, and one that fills a room with a value. */
 static uint64_t nothing(void) { return 7; }
 static uint64_t fills(uint64_t value) {
@@ -385,6 +426,16 @@ int main(void) {
     for (k = CALL_CEILING; k <= CALL_AVERAGE; k++) run_plan((enum call)k, 1024, 16, 0, 1, 1, 7 | (uint64_t)(CELLS - 1) << 32);
     fill(1);
     for (k = CALL_CEILING; k <= CALL_AVERAGE; k++) run_plan((enum call)k, 1024, 16, 0, 1, 1, 8);
+
+    for (law = 0; law <= 2; law++) {
+        fill(0);
+        run_best(SHORT_SCANS, 16, law);
+        fill(0);
+        weigh(SHORT_SCANS, 16);
+        run_best(SHORT_SCANS, 16, law);
+        fill(0);
+        run_best(1, 1, law);
+    }
 
     run_slope(FIBONACCI, FIBONACCI_BEFORE);
     run_slope(FIBONACCI_BEFORE, FIBONACCI);

@@ -1,11 +1,12 @@
 /* The worked tables of document 01 ("Bench tables", the "Others" too) and its room figures, lists of table T by the rules of document 02,
  * [1], table V, of which each law has another plan, by those of [2], illegal cells at every place of a table, of which the walk of [3] must
- * lose none, plan files of both versions by the rules of [4], and table T with scans of unequal weight, its illegal cells and its files, by
- * those of [5], through the archive: of planning calls every value, every byte of every buffer, and guard bytes on both sides of each, the
- * weights' too, which must be as they were; of T's files every value and every byte, the checks as numbers, and guard bytes; of lists every
- * cell and byte, and guards; of illegal cells what goes back, and that a refusal leaves every buffer as it was. What is expected is written
- * out by hand: of document 01 its own figures, of the others what the rules give. Some files that are changed here (V's, those with other
- * block numbers, and long ones) the library has written first. All weights are 1 but in the part of [5]. */
+ * lose none, plan files of both versions by the rules of [4], table T with scans of unequal weight, its illegal cells and its files, by those
+ * of [5], and the true best of these tables and of the largest that it takes, by those of [6], through the archive: of planning calls and the
+ * true best every value, every byte and cell of every buffer, and guards on both sides of each, the weights' too, which must be as they were;
+ * of T's files every value and every byte, the checks as numbers, and guard bytes; of lists every cell and byte, and guards; of illegal cells
+ * what goes back, and that a refusal leaves every buffer as it was. What is expected is written out by hand: of document 01 its own figures,
+ * of the others what the rules give. Some files that are changed here (V's, those with other block numbers, and long ones) the library has
+ * written first. All weights are 1 but in the parts of [5] and [6]. */
 #include "lent.h"
 #include "qpl.h"
 #include "seal.h"
@@ -314,12 +315,13 @@ static int room_refused(uint64_t channels, uint64_t scans, uint64_t settings, si
 
 /* Named values: the last of each answer ends where the answer does, and T's answers stand under their names. */
 static void named(void) {
-    uint8_t plan[2] = {0}, scratch[4] = {0}, answer[QPL_AVERAGE_ANSWER] = {0};
+    uint8_t plan[2] = {0}, scratch[4] = {0}, choices[72] = {0}, answer[QPL_AVERAGE_ANSWER] = {0};
+    uint32_t totals[144] = {0};
     expect("the names end where the answers do",
            8 * (QPL_ROOM_SCRATCH + 1) == QPL_ROOM_ANSWER && 8 * (QPL_READ_WEIGHTED + 1) == QPL_READ_ANSWER &&
                8 * (QPL_CEILING_PEAK + 1) == QPL_CEILING_ANSWER && 8 * (QPL_MULTIPLIER_PEAK + 1) == QPL_MULTIPLIER_ANSWER &&
                8 * (QPL_MINMAX_PEAK + 1) == QPL_MINMAX_ANSWER && 8 * (QPL_AVERAGE_FLOOR + 1) == QPL_AVERAGE_ANSWER &&
-               8 * (QPL_EXPORT_LENGTH + 1) == QPL_EXPORT_ANSWER);
+               8 * (QPL_EXPORT_LENGTH + 1) == QPL_EXPORT_ANSWER && 8 * (QPL_BEST_PEAK + 1) == QPL_BEST_ANSWER);
     qpl_ceiling(2, 2, 0, 7, t_rates, 6, t_distortions, 6, ones, 2, plan, 2, scratch, 4, answer, sizeof answer);
     expect("T, ceiling 7, by name", qpl_value(answer, QPL_CEILING_RATE) == 13 && qpl_value(answer, QPL_CEILING_DISTORTION) == 8 &&
                                         qpl_value(answer, QPL_CEILING_PEAK) == 6);
@@ -333,6 +335,9 @@ static void named(void) {
     expect("T, average 12, by name", qpl_value(answer, QPL_AVERAGE_N) == 9 && qpl_value(answer, QPL_AVERAGE_D) == 4 &&
                                          qpl_value(answer, QPL_AVERAGE_RATE) == 9 && qpl_value(answer, QPL_AVERAGE_DISTORTION) == 17 &&
                                          qpl_value(answer, QPL_AVERAGE_PEAK) == 10 && qpl_value(answer, QPL_AVERAGE_FLOOR) == 11);
+    qpl_best(2, 2, 0, 17, t_rates, 6, t_distortions, 6, ones, 2, plan, 2, choices, 72, totals, 144, answer, sizeof answer);
+    expect("T, best 17, by name", qpl_value(answer, QPL_BEST_RATE) == 13 && qpl_value(answer, QPL_BEST_DISTORTION) == 8 &&
+                                      qpl_value(answer, QPL_BEST_PEAK) == 6);
 }
 
 /* T's average plan for 17 to a file and back, with buffers of exactly the needed size; and a changed byte. */
@@ -1024,12 +1029,12 @@ static const expected_list lists[] = {
     {"an empty line at the end", "0,,0,10,2\r\n\r\n", 16, 2, {0}, {0}},
 };
 
-/* Every cell: as it was from `kept` on; before that the given cells. */
+/* Every cell: as it was from `kept` on; before that the given cells, or zeros where none are given. */
 static int holds_cells(const lent_table *l, size_t kept, const uint32_t *given, uint32_t from) {
     size_t i;
     if (!table_guarded(l)) return 0;
     for (i = 0; i < l->length; i++)
-        if (l->cells[i] != (i >= kept ? lent_cell(i, from) : given[i])) return 0;
+        if (l->cells[i] != (i >= kept ? lent_cell(i, from) : given == NULL ? 0 : given[i])) return 0;
     return 1;
 }
 
@@ -1111,6 +1116,188 @@ static void import_export(void) {
     expect("import: text, tables and scratch at null pointers: refused 6", qpl_import(2, 2, NULL, 0, NULL, 0, NULL, 0, NULL, 0) == 6);
 }
 
+/* A call of the true best, what it must give back, and on 0 the values and the settings that it must answer. */
+typedef struct {
+    const char *what;
+    const table *t;
+    uint64_t budget;
+    uint32_t refusal, carried;
+    uint64_t values[3];
+    const uint8_t *plan;
+} expected_best;
+
+static const uint8_t p_0[] = {0, 0}, p_01[] = {0, 1}, p_10[] = {1, 0}, p_11[] = {1, 1}, p_2[] = {2}, p_02[] = {0, 2}, p_03[] = {0, 3};
+static const uint8_t p_30[] = {3, 0};
+/* N 2, Q 2, law 0: 01 and 10 have rate 4 and distortion 3, 11 has rate 3 and distortion 3, 00 more of both: the rate decides, and with 11
+ * forbidden the first. */
+static const uint32_t tied_distortions[] = {1, 2, 4, 2, 1, 1}, tied_rates[] = {2, 1, 3, 2, 3, 2}, first_rates[] = {2, 1, 3, 2, 3, F};
+static const table TIED = {2, 2, 0, tied_rates, tied_distortions, 6, ones}, FIRST = {2, 2, 0, first_rates, tied_distortions, 6, ones};
+
+static const expected_best bests[] = {
+    {"U, best 7", &U, 7, 0, 0, {6, 8, 8}, p_10},
+    {"U, best 6", &U, 6, 0, 0, {6, 8, 8}, p_10},
+    {"U, best 5", &U, 5, 0, 0, {2, 10, 10}, p_2},
+    {"U, best 1", &U, 1, 9, 0, {0}, NULL},
+    {"U, best 0", &U, 0, 9, 0, {0}, NULL},
+    {"T, best 4,095", &T, 4095, 0, 0, {18, 5, 3}, p_0},
+    {"T, best 18", &T, 18, 0, 0, {18, 5, 3}, p_0},
+    {"T, best 17", &T, 17, 0, 0, {13, 8, 6}, p_01},
+    {"T, best 13", &T, 13, 0, 0, {13, 8, 6}, p_01},
+    {"T, best 12", &T, 12, 0, 0, {9, 17, 10}, p_11},
+    {"T, best 9", &T, 9, 0, 0, {9, 17, 10}, p_11},
+    {"T, best 8", &T, 8, 9, 0, {0}, NULL},
+    {"T, weights 1 1, law 1, best 13", &T_11, 13, 0, 0, {13, 8, 6}, p_01},
+    {"T, weights 0 1, best 13", &T_01, 13, 0, 0, {13, 4, 7}, p_10},
+    {"T, weights 0 1, best 12", &T_01, 12, 0, 0, {9, 10, 10}, p_11},
+    {"T, weights 0 0, best 4,095", &T_00, 4095, 0, 0, {9, 0, 10}, p_11},
+    {"T, weights 255 255, best 17", &T_MOST, 17, 0, 0, {13, 2040, 6}, p_01},
+    {"T with scan 1 forbidden, best 4,095", &BLOCKED, 4095, 8, 0, {0}, NULL},
+    {"T with scan 1 forbidden, best 0", &BLOCKED, 0, 8, 0, {0}, NULL},
+    {"N 1, Q 1, both cells 0, best 0", &SINGLE, 0, 0, 0, {0, 0, 0}, p_0},
+    {"N 1, Q 1, both cells 0, best 4,095", &SINGLE, 4095, 0, 0, {0, 0, 0}, p_0},
+    {"N 1, Q 1, both cells 0, best 4,096", &SINGLE, 4096, 19, 0, {0}, NULL},
+    {"a rate of 1,048,575, best 4,095", &TOP, 4095, 9, 0, {0}, NULL},
+    {"a rate of 1,048,576, best 4,095", &OVER, 4095, 7, 0, {0}, NULL},
+    {"equal distortions, best 4: the rate decides", &TIED, 4, 0, 0, {3, 3, 2}, p_11},
+    {"all is equal, best 4: the first", &FIRST, 4, 0, 0, {4, 3, 2}, p_01},
+    {"law 1: 0 then 2, best 2", &ZERO_TWO, 2, 0, 0, {2, 0, 0}, p_02},
+    {"law 1: 0 then 2, best 1", &ZERO_TWO, 1, 9, 0, {0}, NULL},
+    {"law 1: 0 then 3, best 4,095", &ZERO_THREE, 4095, 8, 0, {0}, NULL},
+    {"V, law 0, best 6", &V0, 6, 0, 0, {6, 4, 3}, p_03},
+    {"V, law 1, best 8", &V1, 8, 9, 0, {0}, NULL},
+    {"V, law 1, best 9", &V1, 9, 0, 0, {9, 4, 3}, p_02},
+    {"V, law 2, best 7", &V2, 7, 0, 0, {7, 4, 3}, p_30},
+    {"V, law 3, best 7", &V3, 7, 3, 0, {0}, NULL},
+    {"V, law 2^32 + 2, best 7", &WIDE, 7, 3, 0, {0}, NULL},
+};
+
+/* What a call of the true best is lent, in cells and bytes. */
+typedef struct {
+    size_t rates, distortions, weights, plan, choices, totals, answer;
+} best_lengths;
+
+/* Exactly what it needs, and so much more of what it writes. */
+static best_lengths best_needs(const table *t, uint64_t budget, size_t more) {
+    best_lengths l;
+    l.rates = l.distortions = t->cells;
+    l.weights = (size_t)t->scans;
+    l.plan = (size_t)t->scans + more;
+    l.choices = (size_t)(t->scans * t->settings * (budget + 1)) + more;
+    l.totals = (size_t)(4 * t->settings * (budget + 1)) + more;
+    l.answer = QPL_BEST_ANSWER + more;
+    return l;
+}
+
+static int best_is(const expected_best *e, best_lengths l) {
+    const table *t = e->t;
+    lent plan = lend(l.plan, 13), choices = lend(l.choices, 100), answer = lend(l.answer, 50), weights = lend_weights(t->weights, l.weights);
+    lent_table totals = lend_table(l.totals, RATES_FROM);
+    uint64_t given = qpl_best(t->scans, t->settings, t->law, e->budget, t->rates, l.rates, t->distortions, l.distortions, weights.bytes,
+                              weights.length, plan.bytes, plan.length, choices.bytes, choices.length, totals.cells, totals.length,
+                              answer.bytes, answer.length);
+    int planned = e->refusal == 0, wiped = planned || e->refusal == 8 || e->refusal == 9;
+    best_lengths need = best_needs(t, e->budget, 0);
+    uint8_t values[QPL_BEST_ANSWER];
+    size_t k;
+    int good = qpl_refusal(given) == e->refusal && qpl_carried(given) == e->carried && weights_hold(&weights, t->weights);
+    for (k = 0; k < sizeof values; k++) values[k] = (uint8_t)(e->values[k / 8] >> 8 * (k % 8));
+    good = good && holds(&plan, planned ? need.plan : 0, e->plan, 13) && holds(&answer, planned ? need.answer : 0, values, 50);
+    good = good && holds(&choices, wiped ? need.choices : 0, NULL, 100) && holds_cells(&totals, wiped ? need.totals : 0, NULL, RATES_FROM);
+    give_back(&weights);
+    give_back(&plan);
+    give_back(&choices);
+    give_back(&answer);
+    give_table_back(&totals);
+    return good;
+}
+
+/* This call with its lengths changed must be refused with this number. */
+static int best_refused(const table *t, uint64_t budget, best_lengths l, uint32_t refusal) {
+    expected_best e = {"", NULL, 0, 0, 0, {0}, NULL};
+    e.t = t, e.budget = budget, e.refusal = refusal;
+    return best_is(&e, l);
+}
+
+/* Lengths one off, alone and beside what comes before and after: 19, 5, 6, 7. */
+static void best_order(void) {
+    static const uint32_t illegal[] = {10, 4, 8, 3, 1048576, 5}, zeros_65[65] = {0};
+    static const table ILLEGAL = {2, 2, 0, illegal, t_distortions, 6, ones};
+    uint8_t ones_65[65];
+    table many = {65, 1, 0, zeros_65, zeros_65, 65, NULL}, few;
+    static const uint64_t large[] = {4096, UINT64_C(1) << 32, (UINT64_C(1) << 32) + 17, UINT64_MAX - 4095, UINT64_MAX};
+    best_lengths right = best_needs(&T, 17, 0), l;
+    size_t k;
+    int good = 1;
+    memset(ones_65, 1, sizeof ones_65);
+    many.weights = ones_65;
+    expect("best, N 65: refused 1, also with budget 4,096", best_refused(&many, 9, best_needs(&many, 9, 0), 1) &&
+                                                                best_refused(&many, 4096, best_needs(&many, 9, 0), 1));
+    few = many, few.scans = few.cells = 64;
+    l = best_needs(&few, 4095, 1);
+    good = best_refused(&few, 4096, l, 19);
+    for (k = 0; k < sizeof large / sizeof large[0]; k++) {
+        l = right;
+        good = good && best_refused(&T, large[k], l, 19);
+        l.rates = 5, l.weights = 1, l.plan = l.choices = l.totals = l.answer = 0;
+        good = good && best_refused(&ILLEGAL, large[k], l, 19) && best_refused(&V3, large[k], l, 3);
+    }
+    expect("best, budgets over 4,095, with tables of any length: refused 19", good);
+    l = right, l.rates = 5, l.plan = l.choices = l.totals = l.answer = 0;
+    good = best_refused(&ILLEGAL, 17, l, 5);
+    l.rates = 6, l.distortions = 5;
+    good = good && best_refused(&ILLEGAL, 17, l, 5);
+    l.distortions = 6, l.weights = 1;
+    expect("best, tables and weights of another length, before 6: refused 5", good && best_refused(&ILLEGAL, 17, l, 5));
+    l = right, l.plan--;
+    good = best_refused(&T, 17, l, 6) && best_refused(&ILLEGAL, 17, l, 6);
+    l = right, l.choices--;
+    good = good && best_refused(&T, 17, l, 6) && best_refused(&ILLEGAL, 17, l, 6) && best_refused(&BLOCKED, 17, l, 6);
+    l = right, l.totals--;
+    good = good && best_refused(&T, 17, l, 6) && best_refused(&ILLEGAL, 17, l, 6);
+    l = right, l.answer--;
+    good = good && best_refused(&T, 17, l, 6) && best_refused(&ILLEGAL, 17, l, 6) && best_refused(&T, 8, l, 6);
+    l.plan = l.choices = l.totals = l.answer = 0;
+    expect("best, a buffer one short, or none at all, before 7: refused 6", good && best_refused(&T, 17, l, 6));
+    expect("best, a rate over the range: refused 7, at 4", best_is(&(expected_best){"", &ILLEGAL, 17, 7, 4, {0}, NULL}, right));
+}
+
+/* The largest call that is taken: 64 scans, 16 settings, law 0, budget 4,095. Whatever the setting before it, setting q has rate 3 + 8 q and
+ * distortion 1,048,575 - q. A sequence whose settings have the sum S has then rate 192 + 8 S and distortion 67,108,800 - S. Within 4,095 S is
+ * at most 487, so that 67,108,313 is the least distortion, at rate 4,088, whichever settings they are; with a sum of 488 the rate is 4,096.
+ * The first sequence of that sum has the lowest settings in front: the last 32 scans take 15 each, which is 480, the one before them takes 7,
+ * and the 31 before that take 0. One of these has the peak. */
+static void largest_best(void) {
+    static uint32_t rates[16144], distortions[16144];
+    uint8_t settings[64], many_ones[64];
+    table t = {64, 16, 0, rates, distortions, 16144, NULL};
+    expected_best e = {"", NULL, 4095, 0, 0, {4088, 67108313, 1048575}, NULL};
+    best_lengths need;
+    size_t k;
+    for (k = 0; k < 16144; k++) rates[k] = 3 + 8 * (uint32_t)(k % 16), distortions[k] = 1048575 - (uint32_t)(k % 16);
+    for (k = 0; k < 64; k++) settings[k] = k < 31 ? 0 : k == 31 ? 7 : 15, many_ones[k] = 1;
+    t.weights = many_ones, e.t = &t, e.plan = settings;
+    need = best_needs(&t, 4095, 0);
+    expect("the largest needs", need.choices == 4194304 && need.totals == 262144);
+    expect("the largest call, with exactly what it needs", best_is(&e, need));
+    expect("the largest call, with more", best_is(&e, best_needs(&t, 4095, 9)));
+    need.choices--;
+    expect("the largest call, a byte of choices short: refused 6", best_refused(&t, 4095, need, 6));
+    need.choices++, need.totals--;
+    expect("the largest call, a cell of totals short: refused 6", best_refused(&t, 4095, need, 6));
+    expect("64 scans of rate 3, best 191", best_refused(&t, 191, best_needs(&t, 191, 9), 9));
+}
+
+/* The true best of short series. Each call has its buffers as long as needed, and longer, of which the rest is as it was. */
+static void true_best(void) {
+    size_t k;
+    for (k = 0; k < sizeof bests / sizeof bests[0]; k++) {
+        expect(bests[k].what, best_is(&bests[k], best_needs(bests[k].t, bests[k].budget, 0)));
+        expect(bests[k].what, best_is(&bests[k], best_needs(bests[k].t, bests[k].budget, 9)));
+    }
+    best_order();
+    largest_best();
+}
+
 int main(void) {
     size_t k;
     for (k = 0; k < sizeof all / sizeof all[0]; k++) {
@@ -1134,6 +1321,7 @@ int main(void) {
     illegal_cells();
     unequal_weights();
     import_export();
+    true_best();
     printf("%d passed, %d failed\n", passed, failed);
     return failed != 0;
 }

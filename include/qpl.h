@@ -14,14 +14,15 @@
  * What a call gives back: 0, or a refusal. A refusal has its number in the low 32 bits (qpl_refusal) and what it carries in the high 32
  * (qpl_carried; 0 where the table below names nothing).
  *
- *    1  scans is 0 or over 1,024
+ *    1  scans is 0 or over 1,024; in qpl_best 0 or over 64
  *    2  settings is 0 or over 16
  *    3  law is not 0, 1 or 2
  *    4  n or d outside its range (n at most, d from 1 to 1,073,741,823)
- *    5  rate or distortion table not of the exact length; in a planning call also weights that are not exactly one for each scan
+ *    5  rate or distortion table not of the exact length; in a planning call and in qpl_best also weights that are not exactly one for each
+ *       scan
  *    6  a lent buffer shorter than needed; in qpl_import a table too
- *    7  illegal cell, in a planning call also one whose distortion times its scan's weight is over 1,048,575; carries the lowest illegal
- *       cell's number
+ *    7  illegal cell, in a planning call and in qpl_best also one whose distortion times its scan's weight is over 1,048,575; carries the
+ *       lowest illegal cell's number
  *    8  no allowed sequence, whatever the limit
  *    9  allowed sequences exist, none within ceiling or budget
  *   10  channels is 0 or over 1,048,576
@@ -32,24 +33,26 @@
  *   16  a line of a list is malformed; carries its line number, from 1
  *   17  a number in a line of a list is out of range; carries its line number, from 1
  *   18  a line of a list is the second for its cell; carries its line number, from 1
+ *   19  budget over 4,095, in qpl_best
  *
  * What a call answers goes to the buffer `answer`: values of eight bytes each, low byte first, in the order given (qpl_value reads one).
  * A refusal changes no byte of it, and bytes past the answer never change.
  *
  * What a host must keep to, as the proofs assume it, whether a call succeeds or refuses:
  *  - a pointer is valid for the whole length that goes with it, for the whole call, also where that length is one that the call refuses;
- *    rates_length and distortions_length count cells, every other length counts bytes; what a pointer points to takes fewer than 2^63 bytes.
- *    A null pointer with length 0 is allowed;
+ *    rates_length, distortions_length and totals_length count cells of 32 bits, every other length counts bytes; what a pointer points to takes
+ *    fewer than 2^63 bytes. A null pointer with length 0 is allowed;
  *  - every byte and every cell that is lent holds a value, in buffers and tables that a call only writes too: no memory that was never
  *    initialised;
  *  - nothing that a call may write, buffer or table (what it takes by a pointer that is not to const), overlaps anything else that is lent to
- *    that call, and nothing else changes what is lent while the call runs. Tables are written by qpl_import alone;
- *  - tables of 32-bit cells are aligned as C aligns uint32_t. Bytes need no alignment.
+ *    that call, and nothing else changes what is lent while the call runs. The two tables are written by qpl_import alone, and the running
+ *    totals by qpl_best;
+ *  - cells of 32 bits, of tables and of running totals, are aligned as C aligns uint32_t. Bytes need no alignment.
  * Numbers are 64 bits wide, so that none is cut before it is checked, but for cells and the ceiling of qpl_ceiling, which have 32 bits, and
  * weights, which have 8: a weight over 255 is cut by C before the call sees it, and no call can refuse it.
  *
  * The scope of the library names the room question and the reader for C hosts, "with numbers and byte slices". The writer, the four planning
- * calls, and import and export go beyond that, and so do the slices of 32-bit cells.
+ * calls, the true best, and import and export go beyond that, and so do the slices of 32-bit cells.
  */
 #ifndef QPL_H
 #define QPL_H
@@ -69,14 +72,15 @@ extern "C" {
 #define QPL_MINMAX_ANSWER 32
 #define QPL_AVERAGE_ANSWER 48
 #define QPL_EXPORT_ANSWER 8
+#define QPL_BEST_ANSWER 24
 
 /* A call takes at most this much stack, in bytes from the caller's stack pointer at the call. That is measured, and not proved.
  *
  * host/stack.c runs the calls of the x86-64 archive on a painted stack and finds the deepest byte that changed, the return address counted:
- * room 96, read 728, write 664, ceiling 5,256, multiplier 5,272, minmax 5,288, average 5,432, import 328, export 544. It runs the largest
- * tables, small ones, refusals, and n and d that are consecutive Fibonacci numbers. Before there were weights the frames in the disassembly
- * were read by hand: all had fixed sizes, and the deepest chain of calls, from qpl_average through the pass to a memcpy, took what was
- * measured. Two functions called themselves, as they do in the source: the lowest terms of n/d, 64 bytes each time, at most 44 times, and
+ * room 96, read 728, write 664, ceiling 5,256, multiplier 5,272, minmax 5,288, average 5,432, import 328, export 544, best 5,512. It runs the
+ * largest tables, small ones, refusals, and n and d that are consecutive Fibonacci numbers. Before there were weights, and before qpl_best,
+ * the frames in the disassembly were read by hand: all had fixed sizes, and the deepest chain of calls, from qpl_average through the pass to a
+ * memcpy, took what was measured. Two functions called themselves, as they do in the source: the lowest terms of n/d, 64 bytes each time, at most 44 times, and
  * never while a pass is on the stack; and the digits of a number in qpl_export, 48 bytes each time, at most 7 times. The common divisor and
  * the width of a number had become loops.
  *
@@ -106,6 +110,7 @@ enum { QPL_MULTIPLIER_RATE, QPL_MULTIPLIER_DISTORTION, QPL_MULTIPLIER_PEAK };
 enum { QPL_MINMAX_CEILING, QPL_MINMAX_RATE, QPL_MINMAX_DISTORTION, QPL_MINMAX_PEAK };
 enum { QPL_AVERAGE_N, QPL_AVERAGE_D, QPL_AVERAGE_RATE, QPL_AVERAGE_DISTORTION, QPL_AVERAGE_PEAK, QPL_AVERAGE_FLOOR };
 enum { QPL_EXPORT_LENGTH };
+enum { QPL_BEST_RATE, QPL_BEST_DISTORTION, QPL_BEST_PEAK };
 
 /* The kinds of a plan file: what an average call answers, and what a minmax call does. */
 enum { QPL_KIND_AVERAGE = 0, QPL_KIND_MINMAX = 1 };
@@ -223,6 +228,26 @@ uint64_t qpl_minmax(uint64_t scans, uint64_t settings, uint64_t law, uint64_t bu
 uint64_t qpl_average(uint64_t scans, uint64_t settings, uint64_t law, uint64_t budget, const uint32_t *rates, size_t rates_length,
                      const uint32_t *distortions, size_t distortions_length, const uint8_t *weights, size_t weights_length, uint8_t *plan,
                      size_t plan_length, uint8_t *scratch, size_t scratch_length, uint8_t *answer, size_t answer_length);
+
+/* The true best of a short series: among the allowed sequences with rate at most `budget`, least distortion, then least rate, then first. An
+ * average plan is the best that a multiplier gives, and within the same budget another sequence may have less distortion; this call finds it,
+ * for at most 64 scans and a budget of at most 4,095. Its distortion is at or above the floor of the average plan at the same budget, and at
+ * most that plan's distortion.
+ *
+ * Tables, weights and laws are those of the planning calls. plan needs `scans` bytes, choices scans * settings * (budget + 1) bytes (at most
+ * 4,194,304), and totals 4 * settings * (budget + 1) cells of 32 bits (at most 262,144, which is 1,048,576 bytes). qpl_room does not answer
+ * for them. Plan files have no kind for such a plan.
+ *
+ * Answer (24 bytes): rate, distortion, peak.
+ * Refusals, the first that applies: 1 (scans is 0 or over 64), 2, 3, 19 (budget over 4,095), 5, 6 (plan, choices, totals or answer too short),
+ * 7, 8, 9.
+ *
+ * On refusals 1 to 7 and 19 every buffer is as it was. On 0, 8 and 9 all that is needed of choices and totals is zero and the rest is as it
+ * was. On 0 the first `scans` bytes of plan are the settings and the rest is as it was; on 8 and 9 all of plan is as it was. */
+uint64_t qpl_best(uint64_t scans, uint64_t settings, uint64_t law, uint64_t budget, const uint32_t *rates, size_t rates_length,
+                  const uint32_t *distortions, size_t distortions_length, const uint8_t *weights, size_t weights_length, uint8_t *plan,
+                  size_t plan_length, uint8_t *choices, size_t choices_length, uint32_t *totals, size_t totals_length, uint8_t *answer,
+                  size_t answer_length);
 
 /* Lists: what the trial encoder measured, one line for each cell: scan, previous setting, setting, rate, distortion, parted by commas, with
  * line ends and quotes as in RFC 4180 and no heading line. The cells are those of the planning calls.

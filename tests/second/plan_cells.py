@@ -1,4 +1,4 @@
-"""The cells of a group's two tables, and the bytes that tell plan_cases to make them, as crates/plan_cases/src/cells.rt takes them."""
+"""The cells of a group's two tables, and the bytes that tell plan_cases to make them, as crates/shown/src/coded.rt takes them."""
 
 import struct
 

@@ -1,12 +1,13 @@
 #!/usr/bin/env python3
-"""What the four planning calls must answer, written from document 01 and requests [2] and [5] of document 02, and sharing nothing with the
-library.
+"""What the four planning calls and the true best must answer, written from document 01 and requests [2], [5] and [6] of document 02, and
+sharing nothing with the library.
 
-`answer` is a whole call: the number that comes back (0: no refusal), the values beside it, and what both lent buffers hold afterwards. It
-takes its plans from one of two makers. `ByTryingAll` lists every allowed sequence of a small table and reads each definition off the list.
-`ByDynamicProgram` is for tables that are too large for that. Each weighs the distortions by itself: the one scan by scan along a sequence,
-the other cell by cell, before it plans. Run as a program, this file holds the two against each other, and both against the examples of
-document 01, a table that tells the laws apart, and tables whose scans have unequal weights."""
+`answer` is a whole call: the number that comes back (0: no refusal), the values beside it, and what both lent buffers hold afterwards;
+`best_answer` is one of the true best, with its three. They take their plans from one of two makers. `ByTryingAll` lists every allowed
+sequence of a small table and reads each definition off the list. `ByDynamicProgram` is for tables that are too large for that. Each weighs
+the distortions by itself: the one scan by scan along a sequence, the other cell by cell, before it plans. Run as a program, this file holds
+the two against each other, and both against the examples of document 01, a table that tells the laws apart, tables whose scans have unequal
+weights, and the examples of the true best, which it also holds against the average plan and its floor."""
 
 import itertools
 import math
@@ -16,9 +17,11 @@ from fractions import Fraction
 
 from laws import LAWS, NO_LAWS, keeps
 
-CEILING, MULTIPLIER, MINMAX, AVERAGE = 1, 2, 3, 4
+CEILING, MULTIPLIER, MINMAX, AVERAGE, BEST = 1, 2, 3, 4, 5
 
 MOST_SCANS = 1024
+# of the true best
+MOST_SHORT, MOST_BUDGET = 64, 4095
 MOST_SETTINGS = 16
 MOST_TERM = 1073741823
 MOST_CELL = 1048575
@@ -89,22 +92,55 @@ class Table:
 # Refusals
 
 
+def out_of_range(most, scans, settings, law):
+    """The refusals 1 to 3, by the most scans that a call takes: the number, or None."""
+    if not 1 <= scans <= most:
+        return 1
+    if not 1 <= settings <= MOST_SETTINGS:
+        return 2
+    return None if law in LAWS else 3
+
+
+def not_exact(scans, settings, rates, distortions, weights):
+    """Refusal 5."""
+    exact = cells(scans, settings)
+    return len(rates) != exact or len(distortions) != exact or len(weights) != scans
+
+
 def early_refusal(call, scans, settings, law, limits, rates, distortions, weights, plan_length, scratch_length):
     """The refusals 1 to 7, in their order: the number and what it carries, or None."""
-    if not 1 <= scans <= MOST_SCANS:
-        return 1, 0
-    if not 1 <= settings <= MOST_SETTINGS:
-        return 2, 0
-    if law not in LAWS:
-        return 3, 0
+    number = out_of_range(MOST_SCANS, scans, settings, law)
+    if number:
+        return number, 0
     if call == MULTIPLIER:
         n, d = limits
         if not (0 <= n <= MOST_TERM and 1 <= d <= MOST_TERM):
             return 4, 0
-    exact = cells(scans, settings)
-    if len(rates) != exact or len(distortions) != exact or len(weights) != scans:
+    if not_exact(scans, settings, rates, distortions, weights):
         return 5, 0
     if plan_length < scans or scratch_length < scans * settings:
+        return 6, 0
+    illegal = lowest_illegal(settings, rates, distortions, weights)
+    if illegal is not None:
+        return 7, illegal
+    return None
+
+
+def best_needs(scans, settings, budget):
+    """The bytes of plan, the bytes of choices and the cells of totals that the true best needs."""
+    return scans, scans * settings * (budget + 1), 4 * settings * (budget + 1)
+
+
+def early_best_refusal(scans, settings, law, budget, rates, distortions, weights, lengths):
+    """The same of the true best: 19 stands where a multiplier has 4. The lengths are those of plan, choices and totals."""
+    number = out_of_range(MOST_SHORT, scans, settings, law)
+    if number:
+        return number, 0
+    if budget > MOST_BUDGET:
+        return 19, 0
+    if not_exact(scans, settings, rates, distortions, weights):
+        return 5, 0
+    if any(length < need for length, need in zip(lengths, best_needs(scans, settings, budget))):
         return 6, 0
     illegal = lowest_illegal(settings, rates, distortions, weights)
     if illegal is not None:
@@ -211,11 +247,19 @@ class ByTryingAll:
                 return [n, d, rate, distortion, peak, least_floor(n, d, budget, rate, distortion)], plan
         raise AssertionError("a budget that a sequence meets has a multiplier")
 
+    def best(self, budget):
+        self.some_allowed()
+        within = [s for s in self.allowed if s[1] <= budget]
+        if not within:
+            raise Refusal(9)
+        plan, rate, distortion, peak = min(within, key=lambda s: (s[2], s[1], s[0]))
+        return [rate, distortion, peak], plan
+
 
 class ByDynamicProgram:
     """Plans from the last scan back: for each setting before, the least key of what follows, and on a tie the lowest setting, so that the
-    walk forward meets the first of the best. The distortions are weighed cell by cell, once: a later scan's weight is that of its whole
-    square."""
+    walk forward meets the first of the best. The true best is planned from the first scan on, by the ways to each setting that no other way
+    beats. The distortions are weighed cell by cell, once: a later scan's weight is that of its whole square."""
 
     # keys are pairs of sums, of which the second stays below this
     SECOND = 1 << 31
@@ -234,7 +278,7 @@ class ByDynamicProgram:
             places.append(self.table.settings + (scan - 1) * square + plan[scan - 1] * self.table.settings + plan[scan])
         return [sum(self.table.rates[k] for k in places), sum(self.weighed[k] for k in places), max(self.table.distortions[k] for k in places)]
 
-    def best(self, keys):
+    def least(self, keys):
         """The plan with the least sum of its cells' keys (None: may not be used), or None."""
         table = self.table
         settings, scans = table.settings, table.scans
@@ -273,12 +317,12 @@ class ByDynamicProgram:
 
     def under(self, x):
         if ("under", x) not in self.chosen:
-            self.chosen["under", x] = self.best(self.keyed(lambda r, w: r * self.SECOND + w, min(x, MOST_CELL)))
+            self.chosen["under", x] = self.least(self.keyed(lambda r, w: r * self.SECOND + w, min(x, MOST_CELL)))
         return self.chosen["under", x]
 
     def choose(self, n, d):
         if (n, d) not in self.chosen:
-            self.chosen[n, d] = self.best(self.keyed(lambda r, w: (d * w + n * r) * self.SECOND + r))
+            self.chosen[n, d] = self.least(self.keyed(lambda r, w: (d * w + n * r) * self.SECOND + r))
         return self.chosen[n, d]
 
     def some_allowed(self):
@@ -341,6 +385,43 @@ class ByDynamicProgram:
         rate, distortion, peak = totals(plan)
         return [n, d, rate, distortion, peak, least_floor(n, d, budget, rate, distortion)], plan
 
+    @staticmethod
+    def unbeaten(ways):
+        """Of ways to one setting, each its rate, its distortion and its settings, those that no other beats. What can follow is the same for
+        all, so a way beats another where neither its rate nor its distortion is more, and where both are the same if it is the first. By
+        rising rate, then, each way that is left has less distortion than the one before."""
+        left = []
+        for way in sorted(ways):
+            if not left or way[1] < left[-1][1]:
+                left.append(way)
+        return left
+
+    def onward(self, k, ways, setting, budget):
+        """These ways, each with a setting more, by cell k, as far as they are within the budget."""
+        rate, distortion = self.table.rates[k], self.weighed[k]
+        if rate == FORBIDDEN:
+            return []
+        return [(r + rate, d + distortion, way + bytes([setting])) for r, d, way in ways if r + rate <= budget]
+
+    def ways(self, budget):
+        """The unbeaten ways through all scans, of each last setting."""
+        settings, law = self.table.settings, self.table.law
+        here = [self.onward(q, [(0, 0, b"")], q, budget) for q in range(settings)]
+        for scan in range(1, self.table.scans):
+            there = []
+            for q in range(settings):
+                before = [p for p in range(settings) if keeps(law, p, q)]
+                steps = [self.onward(cell(settings, scan, p, q), here[p], q, budget) for p in before]
+                there.append(self.unbeaten(itertools.chain(*steps)))
+            here = there
+        return here
+
+    def best(self, budget):
+        if self.totals(self.some_allowed())[0] > budget:
+            raise Refusal(9)
+        _, _, way = min((d, r, way) for r, d, way in itertools.chain(*self.ways(budget)))
+        return self.totals(way), tuple(way)
+
 
 # Whole calls
 
@@ -352,6 +433,8 @@ def planned(maker, call, limits):
         return maker.multiplier(*limits)
     if call == MINMAX:
         return maker.minmax(limits[0])
+    if call == BEST:
+        return maker.best(limits[0])
     return maker.average(limits[0])
 
 
@@ -368,6 +451,21 @@ def answer(make, call, scans, settings, law, limits, rates, distortions, weights
     except Refusal as late:
         return late.args[0], [0], plan, cleared
     return 0, values, bytes(settled) + plan[scans:], cleared
+
+
+def best_answer(make, scans, settings, law, budget, rates, distortions, weights, plan, choices, totals):
+    """The same of the true best, with its three buffers; totals is a list of cells."""
+    lengths = len(plan), len(choices), len(totals)
+    early = early_best_refusal(scans, settings, law, budget, rates, distortions, weights, lengths)
+    if early:
+        return early[0], [early[1]], plan, choices, totals
+    _, bytes_used, cells_used = best_needs(scans, settings, budget)
+    cleared = bytes(bytes_used) + choices[bytes_used:], [0] * cells_used + totals[cells_used:]
+    try:
+        values, settled = planned(make(Table(scans, settings, law, rates, distortions, weights)), BEST, (budget,))
+    except Refusal as late:
+        return late.args[0], [0], plan, *cleared
+    return 0, values, bytes(settled) + plan[scans:], *cleared
 
 
 # The check of this file by itself
@@ -520,6 +618,64 @@ def weighed():
         assert [scan_of(settings, k) for k in range(cells(4, settings))] == [place[0] for place in places]
 
 
+# The true best of tables T and U by weights: the budget, the number that comes back, the values and the settings.
+BEST_T = [
+    ((1, 1), 8, 9, [0], (7, 7)),
+    ((1, 1), 9, 0, [9, 17, 10], (1, 1)),
+    ((1, 1), 12, 0, [9, 17, 10], (1, 1)),
+    ((1, 1), 13, 0, [13, 8, 6], (0, 1)),
+    ((1, 1), 17, 0, [13, 8, 6], (0, 1)),
+    ((1, 1), 18, 0, [18, 5, 3], (0, 0)),
+    ((1, 1), 4095, 0, [18, 5, 3], (0, 0)),
+    ((1, 1), 4096, 19, [0], (7, 7)),
+    ((0, 1), 13, 0, [13, 4, 7], (1, 0)),
+    ((0, 0), 4095, 0, [9, 0, 10], (1, 1)),
+]
+BEST_U = [(1, 9, [0], (7,)), (2, 0, [2, 10, 10], (2,)), (7, 0, [6, 8, 8], (1,)), (9, 0, [9, 0, 0], (0,))]
+
+
+def best_of(maker, table, budget, weights=None, more=(0, 0, 0), rates=None):
+    """A call of the true best with buffers that are longer than needed by so much, or shorter: what it answers, and the buffers."""
+    scans, settings, law, plain, distortions = table
+    lengths = [max(need + extra, 0) for need, extra in zip(best_needs(scans, settings, min(budget, MOST_BUDGET)), more)]
+    weights = ones(scans) if weights is None else bytes(weights)
+    lent = b"\7" * lengths[0], b"\7" * lengths[1], [7] * lengths[2]
+    return best_answer(maker, scans, settings, law, budget, plain if rates is None else rates, distortions, weights, *lent)
+
+
+def short_series():
+    """Request [6]: tables T and U, 8 and 9, the numbers and lengths at both sides of their limits, and what the buffers hold afterwards."""
+    t = (2, 2, 0, [10, 4, 8, 3, 9, 5], [2, 7, 3, 6, 4, 10])
+    u = (1, 3, 0, [9, 6, 2], [0, 8, 10])
+    blocked = t[3][:2] + [FORBIDDEN] * 4
+    for maker in (ByTryingAll, ByDynamicProgram):
+        for weights, budget, *right in BEST_T:
+            number, values, plan, choices, totals = best_of(maker, t, budget, weights)
+            assert [number, values, tuple(plan)] == right, (weights, budget)
+            if number in (0, 8, 9):
+                assert not any(choices) and not any(totals)
+        for budget, *right in BEST_U:
+            number, values, plan, _, _ = best_of(maker, u, budget)
+            assert [number, values, tuple(plan)] == right, budget
+        for budget in (0, 13, 4095):
+            assert best_of(maker, t, budget, rates=blocked)[:2] == (8, [0])
+        assert best_of(maker, (1, 1, 0, [0], [0]), 0) == (0, [0, 0, 0], b"\0", b"\0", [0] * 4)
+        # a buffer too short, longer ones on 0, 8 and 9, and an illegal cell behind a short buffer
+        for more in ((-1, 0, 0), (0, -1, 0), (0, 0, -1)):
+            assert best_of(maker, t, 17, more=more)[:2] == best_of(maker, t, 17, more=more, rates=[2 ** 20] * 6)[:2] == (6, [0])
+        for budget, rates, number, plan in ((17, t[3], 0, b"\0\1"), (17, blocked, 8, b"\7\7"), (8, t[3], 9, b"\7\7")):
+            _, choices, totals = best_needs(2, 2, budget)
+            right = plan + b"\7" * 3, bytes(choices) + b"\7" * 2, [0] * totals + [7] * 5
+            got = best_of(maker, t, budget, more=(3, 2, 5), rates=rates)
+            assert got[0] == number and got[2:] == right
+        assert best_of(maker, t, 17, more=(3, 2, 5), rates=[10, 4, 8, 3, 9, 2 ** 20])[:2] == (7, [5])
+        # 19 comes after 1 to 3 and before 5
+        for scans, law, budget, number in ((64, 0, 3, 0), (64, 0, 4096, 19), (65, 0, 4096, 1), (0, 0, 0, 1), (64, 3, 4096, 3)):
+            table = scans, 1, law, [0] * scans, [1048575] * scans
+            assert best_of(maker, table, budget)[0] == number
+            assert best_of(maker, table, budget, rates=[])[0] == (number or 5)
+
+
 def outcome(maker, call, *limits):
     try:
         return planned(maker, call, limits)
@@ -527,11 +683,22 @@ def outcome(maker, call, *limits):
         return late.args[0]
 
 
+def between(maker, budget):
+    """The true best is refused as the average plan is; its distortion is at most that plan's, and at least the floor that it proves."""
+    average, best = outcome(maker, AVERAGE, budget), outcome(maker, BEST, budget)
+    if average in (8, 9) or best in (8, 9):
+        return average == best
+    *_, distortion, _, floor = average[0]
+    return floor <= best[0][1] <= distortion
+
+
 def agree(table, budgets, ceilings, multipliers):
     """The two makers answer alike."""
     tried, programmed = ByTryingAll(table), ByDynamicProgram(table)
-    asked = [(call, b) for b in budgets for call in (MINMAX, AVERAGE)]
+    low = [b for b in budgets if b <= MOST_BUDGET]
+    asked = [(call, b) for b in budgets for call in (MINMAX, AVERAGE)] + [(BEST, b) for b in low]
     asked += [(CEILING, x) for x in ceilings] + [(MULTIPLIER,) + m for m in multipliers]
+    assert all(between(maker, b) for maker in (tried, programmed) for b in low)
     for call, *limits in asked:
         assert outcome(tried, call, *limits) == outcome(programmed, call, *limits), (vars(table), call, limits)
     for plan, *totals in tried.allowed:
@@ -551,6 +718,7 @@ def main():
     worked()
     lawful()
     weighed()
+    short_series()
     draw = random.Random(20)
     asked = 0
     for _ in range(2000):
@@ -565,7 +733,7 @@ def main():
         weights = random_weights(draw, scans, max([d for r, d in zip(rates, distortions) if r != FORBIDDEN], default=0))
         assert lowest_illegal(settings, rates, distortions, weights) is None
         table = Table(scans, settings, draw.choice(LAWS), rates, distortions, weights)
-        budgets = [0, 2 ** 64 - 1] + [draw.randint(0, (span + 1) * scans) for _ in range(3)]
+        budgets = [0, MOST_BUDGET, 2 ** 64 - 1] + [draw.randint(0, (span + 1) * scans) for _ in range(5)]
         multipliers = [(0, 1), (1, 1), (MOST_TERM, 1), (1, MOST_TERM), (draw.randint(0, 9), draw.randint(1, 9))]
         asked += agree(table, budgets, [0, draw.choice(distortions), draw.randint(0, span), FORBIDDEN], multipliers)
     print("planner.py: the examples hold, and both makers answer %d calls alike" % asked)

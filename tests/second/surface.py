@@ -9,10 +9,10 @@ from planner import AVERAGE, CEILING, MINMAX, MULTIPLIER
 
 NAMES = {CEILING: "ceiling", MULTIPLIER: "multiplier", MINMAX: "minmax", AVERAGE: "average"}
 NEEDS = {CEILING: 24, MULTIPLIER: 24, MINMAX: 32, AVERAGE: 48}
-ROOM_NEEDS, READ_NEEDS, EXPORT_NEEDS = 24, 104, 8
+ROOM_NEEDS, READ_NEEDS, EXPORT_NEEDS, BEST_NEEDS = 24, 104, 8, 24
 
-# Document 01's orders: a buffer that is too short is 6, after these and before all others.
-BEFORE_ROOM = {1, 2, 3, 4, 5, 11, 12, 13}
+# The documents' orders: a buffer that is too short is 6, after these and before all others.
+BEFORE_ROOM = {1, 2, 3, 4, 5, 11, 12, 13, 19}
 
 
 def word(number, carried):
@@ -42,6 +42,18 @@ def plan_call(make, call, scans, settings, law, limits, rates, distortions, weig
     if number:
         return word(number, values[0]), answer, plan, scratch
     return 0, with_values(values, answer), plan, scratch
+
+
+def best_call(make, scans, settings, law, budget, rates, distortions, weights, plan, choices, totals, answer):
+    """The number, and the buffers answer, plan, choices and totals. A short answer buffer is 6 where a short plan is, and so before 7."""
+    asked = scans, settings, law, budget, rates, distortions, weights
+    if len(answer) < BEST_NEEDS:
+        early = planner.early_best_refusal(*asked, (len(plan), len(choices), len(totals)))
+        return word(*early) if early and early[0] in BEFORE_ROOM else word(6, 0), answer, plan, choices, totals
+    number, values, *after = planner.best_answer(make, *asked, plan, choices, totals)
+    if number:
+        return word(number, values[0]), answer, *after
+    return 0, with_values(values, answer), *after
 
 
 def read_call(file, plan, answer):

@@ -1,9 +1,10 @@
 -- The checks 1 to 7: what each stage of them tells, and what a call that passes them knows. Assumes nothing.
 use mathlib.Core.Path.{sym, _≡_, refl, ap, _∙_}
-use mathlib.Core.Bool.{Bool, false, _||_}
+use mathlib.Core.Bool.{Bool, false}
 use mathlib.Core.Option.{Option, none, some}
-use mathlib.Core.List.{List, [], _∷_, _++_}
+use mathlib.Core.List.{List, [], _∷_}
 use Prim.Native.Nat.{ℕ, _≤_}
+use native.Mathlib.Omega.{arith}
 use lib.Dec.{ltb}
 use lib.ListN.{length}
 use borrow.Author.Tests.{eqb-true, ltb-false, not-false}
@@ -17,12 +18,12 @@ use Rattle.tables.specs.Tables.{cells, scratch-need}
 use Rattle.checks.specs.declared.stage.Stage.{Stage}
 use Rattle.checks.specs.declared.stage.Stage.the-variants.{Stopped}
 use Rattle.checks.specs.Checks.{zero-or-over, when, or-else, first-refusal}
-use Rattle.checks.specs.Planning.{Asked, Unsound, Sound, early, illegal, early-refusal, range-checks, scans-out, settings-out, lengths-out, weights-out, buffers-short, weigh-of, multiplier-out}
-use Rattle.checks.specs.Stages.{ended, CheckedAs}
+use Rattle.checks.specs.Planning.{Asked, UnsoundBy, SoundBy, Sound, early, illegal, first-early, range-checks, front-checks, planning-checks, settings-out, lengths-out, sizes-out, weigh-of, multiplier-out}
+use Rattle.checks.specs.Stages.{ended, CheckedBy}
 use Rattle.checks.specs.Fit.{Fit}
 use Rattle.checks.proofs.GiveLaws.{Gives, gives-first, gives-when}
-use Rattle.checks.proofs.RangeLaws.{in-range}
-use Rattle.checks.proofs.CheckLaws.{none-when, all-pass, first-append}
+use Rattle.checks.proofs.RangeLaws.{in-range, passes-range}
+use Rattle.checks.proofs.CheckLaws.{none-when, none-else, else-nothing, all-pass, first-append}
 
 -- numbers that passed 1 and 2 are in their range
 pub in-ranges : (most N Q : ℕ) (lawless : Bool) → first-refusal (range-checks most N Q lawless) ≡ none →
@@ -36,17 +37,6 @@ pub lengths-exact : (N Q : ℕ) (rates distortions : List ℕ) → lengths-out N
     (length rates ≡ cells N Q) × (length distortions ≡ cells N Q)
 lengths-exact N Q rates distortions e = let b = neither _ _ e in (eqb-true _ _ (not-false _ (b .0)), eqb-true _ _ (not-false _ (b .1)))
 
--- check 5
-abbrev pub sizes-out : Asked → Bool
-sizes-out a = lengths-out (a .N) (a .Q) (a .rates) (a .distortions) || weights-out (a .N) (a .weights)
-
--- the checks 5 and 6
-abbrev pub size-checks : Asked → List (Option Refusal)
-size-checks a =
-    when (sizes-out a) refusal.Lengths
-    ∷ when (buffers-short (a .N) (a .Q) (a .plan) (a .scratch)) refusal.Buffer
-    ∷ []
-
 -- lengths that passed it
 pub sizes-exact : (a : Asked) → sizes-out a ≡ false →
     (length (a .rates) ≡ cells (a .N) (a .Q)) × (length (a .distortions) ≡ cells (a .N) (a .Q)) × (length (a .weights) ≡ a .N)
@@ -55,106 +45,140 @@ sizes-exact a e =
     let l = lengths-exact (a .N) (a .Q) (a .rates) (a .distortions) (b .0) in
     (l .0, l .1, eqb-true _ _ (not-false _ (b .1)))
 
--- the checks 1 to 3
-abbrev pub range-refusal : Asked → Option Refusal
-range-refusal a = first-refusal (range-checks most-scans (a .N) (a .Q) (a .lawless))
+-- the checks 1 to 5 of a question
+abbrev pub front-refusal : ℕ → Option Refusal → Asked → Option Refusal
+front-refusal most further a = first-refusal (front-checks most (a .N) (a .Q) (a .lawless) further (sizes-out a))
 
--- what the checks 1 to 6 leave
-pub record Admitted (further : Option Refusal) (a : Asked) : Type 0 where
-  pub scans : scans-out (a .N) ≡ false
-  pub settings : settings-out (a .Q) ≡ false
+-- .. in other words for the law's test and for the further check
+pub front-same : (most : ℕ) (a : Asked) {lawless : Bool} {further further′ : Option Refusal} {z : Option Refusal} →
+    z ≡ first-refusal (front-checks most (a .N) (a .Q) lawless further (sizes-out a)) → lawless ≡ a .lawless → further ≡ further′ → z ≡ front-refusal most further′ a
+front-same most a e f g = rw (f, g) at e
+
+-- check 6
+abbrev pub buffer-refusal : Bool → Option Refusal
+buffer-refusal short = when short refusal.Buffer
+
+module _ (most : ℕ) (further : Option Refusal) (short : Bool) (a : Asked) where
+  -- the checks 1 to 6 are 1 to 5, and 6
+  early-parts : first-early most further short a ≡ or-else (front-refusal most further a) (buffer-refusal short)
+  unfolding first-early
+  early-parts =
+      first-append (front-checks most (a .N) (a .Q) (a .lawless) further (sizes-out a)) (buffer-refusal short ∷ [])
+      ∙ ap (or-else (front-refusal most further a)) (else-nothing (buffer-refusal short))
+
+  -- as each stage of the code ends, where those before it have passed
+  pub front-stage : {z : Stage} {w : Refusal} → ended z ≡ front-refusal most further a → z ≡ Stopped w →
+      CheckedBy most further short a (ended z)
+  front-stage {z} {w} e q =
+      let f : front-refusal most further a ≡ some w = sym e ∙ ap ended q in
+      rw q (early {r = w} (early-parts ∙ rw f refl))
+
+  pub buffer-stage : {z : Stage} {w : Refusal} → front-refusal most further a ≡ none → ended z ≡ buffer-refusal short → z ≡ Stopped w →
+      CheckedBy most further short a (ended z)
+  buffer-stage {z} {w} n e q =
+      let f : buffer-refusal short ≡ some w = sym e ∙ ap ended q in
+      rw q (early {r = w} (early-parts ∙ rw (n, f) refl))
+
+  -- where none of them refuses, the cells decide
+  pub cells-decide : {o : Option Refusal} → front-refusal most further a ≡ none → buffer-refusal short ≡ none →
+      Judged (weigh-of a) (a .rates) (a .distortions) o → CheckedBy most further short a o
+  cells-decide e f (all-legal h) = record { passed = early-parts ∙ rw (e, f) refl; legal = h }
+  cells-decide e f (not-legal h) = illegal (early-parts ∙ rw (e, f) refl) h
+
+-- what the checks 1 to 5 leave
+pub record Fronted (most : ℕ) (further : Option Refusal) (a : Asked) : Type 0 where
+  pub some-scans : 1 ≤ a .N
+  pub scans : a .N ≤ most
+  pub some-settings : 1 ≤ a .Q
+  pub settings : a .Q ≤ most-settings
   pub law : a .lawless ≡ false
   pub further-passed : further ≡ none
   pub lengths : sizes-out a ≡ false
-  pub buffers : buffers-short (a .N) (a .Q) (a .plan) (a .scratch) ≡ false
 
-module _ (further : Option Refusal) (a : Asked) where
-  -- the checks 1 to 6 are 1 to 3, the further one, and 5 and 6
-  early-parts : early-refusal further a ≡ or-else (range-refusal a) (or-else further (first-refusal (size-checks a)))
-  unfolding early-refusal
-  early-parts = first-append (range-checks most-scans (a .N) (a .Q) (a .lawless)) (further ∷ size-checks a)
+pub fronted : (most : ℕ) (further : Option Refusal) (a : Asked) → front-refusal most further a ≡ none → Fronted most further a
+fronted most further a e =
+    let p = all-pass (front-checks most (a .N) (a .Q) (a .lawless) further (sizes-out a)) e in
+    let n = in-range {most = most} {x = a .N} (none-when _ _ (p .0)) in
+    let q = in-range {most = most-settings} {x = a .Q} (none-when _ _ (p .1 .0)) in
+    record {
+      some-scans = n .0;
+      scans = n .1;
+      some-settings = q .0;
+      settings = q .1;
+      law = none-when _ _ (p .1 .1 .0);
+      further-passed = p .1 .1 .1 .0;
+      lengths = none-when _ _ (p .1 .1 .1 .1 .0);
+    }
 
-  -- each of the three, where those before it have passed
-  stops-at-range : {r : Refusal} → range-refusal a ≡ some r → Unsound further a r
-  stops-at-range {r} e = early {r = r} (early-parts ∙ rw e refl)
+-- .. where none of the checks 1 to 6 refuses
+pub early-fronted : (most : ℕ) (further : Option Refusal) (short : Bool) (a : Asked) → first-early most further short a ≡ none → Fronted most further a
+early-fronted most further short a e =
+    fronted most further a (none-else (front-refusal most further a) (buffer-refusal short) (sym (early-parts most further short a) ∙ e) .0)
 
-  stops-at-further : {r : Refusal} → range-refusal a ≡ none → further ≡ some r → Unsound further a r
-  stops-at-further {r} e f = early {r = r} (early-parts ∙ rw (e, f) refl)
+-- .. and the other way round: no refusal is given where each of the checks passes
+pub fronted-passes : (most : ℕ) (further : Option Refusal) (short : Bool) (a : Asked) → Fronted most further a → short ≡ false → first-early most further short a ≡ none
+unfolding first-early
+fronted-passes most further short a f e =
+    rw (passes-range {most = most} {x = a .N} (f .some-scans) (f .scans), passes-range {most = most-settings} {x = a .Q} (f .some-settings) (f .settings), f .law, f .further-passed, f .lengths, e) refl
 
-  stops-at-size : {r : Refusal} → range-refusal a ≡ none → further ≡ none → first-refusal (size-checks a) ≡ some r → Unsound further a r
-  stops-at-size {r} e f g = early {r = r} (early-parts ∙ rw (e, f, g) refl)
+module _ {most : ℕ} {further : Option Refusal} {short : Bool} {a : Asked} where
+  parts-passed : SoundBy most further short a → (front-refusal most further a ≡ none) × (buffer-refusal short ≡ none)
+  parts-passed s = none-else (front-refusal most further a) (buffer-refusal short) (sym (early-parts most further short a) ∙ s .passed)
 
-  -- .. as a stage of the code ends
-  pub range-stage : {z : Stage} {w : Refusal} → ended z ≡ range-refusal a → z ≡ Stopped w → CheckedAs further a (ended z)
-  range-stage {z} {w} e q = rw q (stops-at-range {r = w} (sym e ∙ ap ended q))
+  -- what a call that passed knows: its numbers and lengths, and that 6 does not fail
+  pub sound-front : SoundBy most further short a → Fronted most further a
+  sound-front s = fronted most further a (parts-passed s .0)
 
-  pub further-stage : {z : Stage} {w : Refusal} → range-refusal a ≡ none → ended z ≡ further → z ≡ Stopped w → CheckedAs further a (ended z)
-  further-stage {z} {w} n e q = rw q (stops-at-further {r = w} n (sym e ∙ ap ended q))
+  pub sound-short : SoundBy most further short a → short ≡ false
+  sound-short s = none-when short refusal.Buffer (parts-passed s .1)
 
-  pub size-stage : {z : Stage} {w : Refusal} → range-refusal a ≡ none → further ≡ none → ended z ≡ first-refusal (size-checks a) → z ≡ Stopped w →
-      CheckedAs further a (ended z)
-  size-stage {z} {w} n f e q = rw q (stops-at-size {r = w} n f (sym e ∙ ap ended q))
-
-  -- where none of them refuses, the cells decide
-  pub cells-decide : {o : Option Refusal} → range-refusal a ≡ none → further ≡ none → first-refusal (size-checks a) ≡ none →
-      Judged (weigh-of a) (a .rates) (a .distortions) o → CheckedAs further a o
-  cells-decide e f g (all-legal h) = record { passed = early-parts ∙ rw (e, f, g) refl; legal = h }
-  cells-decide e f g (not-legal h) = illegal (early-parts ∙ rw (e, f, g) refl) h
-
-module _ {further : Option Refusal} {a : Asked} where
-  pub admitted : early-refusal further a ≡ none → Admitted further a
-  unfolding early-refusal
-  admitted e =
-      let p = all-pass (range-checks most-scans (a .N) (a .Q) (a .lawless) ++ (further ∷ size-checks a)) e in
+  -- .. and so a pass can be asked, where scratch has the room of one
+  pub sound-room : most ≤ most-scans → {room : ℕ} → scratch-need (a .N) (a .Q) ≤ room → SoundBy most further short a →
+      Fit (a .N) (a .Q) (a .rates) (a .distortions) (a .weights) room
+  sound-room h g s =
+      let f = sound-front s in
+      let l = sizes-exact a (f .lengths) in
       record {
-        scans = none-when _ _ (p .0);
-        settings = none-when _ _ (p .1 .0);
-        law = none-when _ _ (p .1 .1 .0);
-        further-passed = p .1 .1 .1 .0;
-        lengths = none-when _ _ (p .1 .1 .1 .1 .0);
-        buffers = none-when _ _ (p .1 .1 .1 .1 .1 .0);
-      }
-
-  -- the buffers that check 6 lets pass
-  long-enough : Admitted further a → (a .N ≤ a .plan) × (scratch-need (a .N) (a .Q) ≤ a .scratch)
-  long-enough p =
-      let b = neither _ _ (p .buffers) in
-      (ltb-false _ _ (b .0), ltb-false _ _ (b .1))
-
-  -- a sound call is one that a pass can be asked, lends room for the plan, and has passed the further check
-  pub sound-fit : Sound further a → Fit (a .N) (a .Q) (a .rates) (a .distortions) (a .weights) (a .scratch)
-  sound-fit s =
-      let p = admitted (s .passed) in
-      let l = sizes-exact a (p .lengths) in
-      record {
-        some-scans = in-range (p .scans) .0;
-        scans = in-range (p .scans) .1;
-        some-settings = in-range (p .settings) .0;
-        settings = in-range (p .settings) .1;
+        some-scans = f .some-scans;
+        scans = omega (arith, f .scans);
+        some-settings = f .some-settings;
+        settings = f .settings;
         rates-long = l .0;
         distortions-long = l .1;
         weights-long = l .2;
         legal = s .legal;
-        room = long-enough p .1;
+        room = g;
       }
 
+module _ {further : Option Refusal} {a : Asked} where
+  -- the buffers that check 6 lets pass
+  long-enough : Sound further a → (a .N ≤ a .plan) × (scratch-need (a .N) (a .Q) ≤ a .scratch)
+  long-enough s =
+      let b = neither _ _ (sound-short s) in
+      (ltb-false _ _ (b .0), ltb-false _ _ (b .1))
+
+  -- a sound call is one that a pass can be asked, lends room for the plan, and has passed the further check
+  pub sound-fit : Sound further a → Fit (a .N) (a .Q) (a .rates) (a .distortions) (a .weights) (a .scratch)
+  sound-fit s = sound-room (omega arith) (long-enough s .1) s
+
   pub sound-plan : Sound further a → a .N ≤ a .plan
-  sound-plan s = long-enough (admitted (s .passed)) .0
+  sound-plan s = long-enough s .0
 
   pub sound-law : Sound further a → a .lawless ≡ false
-  sound-law s = admitted (s .passed) .law
+  sound-law s = sound-front s .law
 
   pub sound-further : Sound further a → further ≡ none
-  sound-further s = admitted (s .passed) .further-passed
+  sound-further s = sound-front s .further-passed
 
+module _ {most : ℕ} {further : Option Refusal} {short : Bool} {a : Asked} where
   -- the checks give one refusal, and none where they pass
-  pub unsound-unique : {r r′ : Refusal} → Unsound further a r → Unsound further a r′ → r ≡ r′
+  pub unsound-unique : {r r′ : Refusal} → UnsoundBy most further short a r → UnsoundBy most further short a r′ → r ≡ r′
   unsound-unique (early e) (early e′) = cc
   unsound-unique (early e) (illegal e′ l) = never (cc)
   unsound-unique (illegal e l) (early e′) = never (cc)
   unsound-unique (illegal e l) (illegal e′ l′) = ap refusal.Cell (lowest-illegal-unique (weigh-of a) (a .rates) (a .distortions) l l′)
 
-  pub sound-or-not : {r : Refusal} → Unsound further a r → Sound further a → ⊥
+  pub sound-or-not : {r : Refusal} → UnsoundBy most further short a r → SoundBy most further short a → ⊥
   sound-or-not (early e) s = let p = s .passed in never (cc)
   sound-or-not (illegal e l) s = not-both (weigh-of a) (a .rates) (a .distortions) l (s .legal)
 
@@ -166,12 +190,12 @@ multiplier-in {n} {d} e =
     (ltb-false most-term n (r .0), (i .0, i .1))
 
 -- what holds of the refusals 1, 2, 3, 5 and 6, and of those of the further check, holds of the first that is given
-pub early-gives : (P : Refusal → Type 0) (further : Option Refusal) (a : Asked) → P refusal.Scans → P refusal.Settings → P refusal.StepLaw →
-    Gives P further → P refusal.Lengths → P refusal.Buffer → Gives P (early-refusal further a)
-unfolding early-refusal
-early-gives P further a one two three f five six =
-    gives-first P (range-checks most-scans (a .N) (a .Q) (a .lawless) ++ (further ∷ size-checks a)) (
-      gives-when P (scans-out (a .N)) refusal.Scans one,
+pub early-gives : (P : Refusal → Type 0) (most : ℕ) (further : Option Refusal) (short : Bool) (a : Asked) → P refusal.Scans → P refusal.Settings →
+    P refusal.StepLaw → Gives P further → P refusal.Lengths → P refusal.Buffer → Gives P (first-early most further short a)
+unfolding first-early
+early-gives P most further short a one two three f five six =
+    gives-first P (planning-checks most (a .N) (a .Q) (a .lawless) further (sizes-out a) short) (
+      gives-when P (zero-or-over most (a .N)) refusal.Scans one,
       (
         gives-when P (settings-out (a .Q)) refusal.Settings two,
         (
@@ -180,7 +204,7 @@ early-gives P further a one two three f five six =
             f,
             (
               gives-when P (sizes-out a) refusal.Lengths five,
-              (gives-when P (buffers-short (a .N) (a .Q) (a .plan) (a .scratch)) refusal.Buffer six, tt),
+              (gives-when P short refusal.Buffer six, tt),
             ),
           ),
         ),

@@ -49,10 +49,12 @@ range-checks most N Q lawless =
     when (zero-or-over most N) refusal.Scans ∷ when (settings-out Q) refusal.Settings ∷ when lawless refusal.StepLaw ∷ []
 
 -- "Planning checks in the order 1 to 9 (4 only for a multiplier call ..)": those that look at numbers and lengths. `further` is the check
--- between 3 and 5 that a call may have; `lengths` and `buffers` say that 5 and 6 fail.
-abbrev pub planning-checks : (most N Q : ℕ) (lawless : Bool) → Option Refusal → (lengths buffers : Bool) → List (Option Refusal)
-planning-checks most N Q lawless further lengths buffers =
-    range-checks most N Q lawless ++ (further ∷ when lengths refusal.Lengths ∷ when buffers refusal.Buffer ∷ [])
+-- between 3 and 5 that a call may have; `lengths` and `short` say that 5 and 6 fail.
+abbrev pub front-checks : (most N Q : ℕ) (lawless : Bool) → Option Refusal → (lengths : Bool) → List (Option Refusal)
+front-checks most N Q lawless further lengths = range-checks most N Q lawless ++ (further ∷ when lengths refusal.Lengths ∷ [])
+
+abbrev pub planning-checks : (most N Q : ℕ) (lawless : Bool) → Option Refusal → (lengths short : Bool) → List (Option Refusal)
+planning-checks most N Q lawless further lengths short = front-checks most N Q lawless further lengths ++ (when short refusal.Buffer ∷ [])
 
 -- What a planning call is asked, but for its limit: the numbers, the tables, the weights and the lengths of the lent buffers. Of its law it
 -- holds which pairs it allows, and whether it is none of those that the call takes; no number, so what is said of questions is said of any law.
@@ -94,22 +96,36 @@ problem-of a = planning (table-of a)
 abbrev pub fourth-check : ℕ → ℕ → Option Refusal
 fourth-check n d = when (multiplier-out n d) refusal.Multiplier
 
--- the first refusal of the checks 1 to 6
-unfoldable pub early-refusal : Option Refusal → Asked → Option Refusal
-early-refusal further a =
-    first-refusal (planning-checks most-scans (a .N) (a .Q) (a .lawless) further
-    (lengths-out (a .N) (a .Q) (a .rates) (a .distortions) || weights-out (a .N) (a .weights)) (buffers-short (a .N) (a .Q) (a .plan) (a .scratch)))
+-- check 5 of a question
+abbrev pub sizes-out : Asked → Bool
+sizes-out a = lengths-out (a .N) (a .Q) (a .rates) (a .distortions) || weights-out (a .N) (a .weights)
+
+-- the first refusal of the checks 1 to 6, where a call takes at most `most` scans and `short` says that 6 fails
+unfoldable pub first-early : (most : ℕ) → Option Refusal → (short : Bool) → Asked → Option Refusal
+first-early most further short a = first-refusal (planning-checks most (a .N) (a .Q) (a .lawless) further (sizes-out a) short)
+
+-- .. of the four calls: at most 1,024 scans, and the two buffers of a pass
+abbrev pub early-refusal : Option Refusal → Asked → Option Refusal
+early-refusal further a = first-early most-scans further (buffers-short (a .N) (a .Q) (a .plan) (a .scratch)) a
 
 -- the weight of each cell
 abbrev pub weigh-of : Asked → ℕ → ℕ
 weigh-of a = weights-by-scan (a .Q) (a .weights)
 
 -- one of the checks 1 to 7 fails, and this is the refusal of the first that does
-pub data Unsound (further : Option Refusal) (a : Asked) : Refusal → Type 0 where
-  early : {r : Refusal} → early-refusal further a ≡ some r → Unsound further a r
-  illegal : {k : ℕ} → early-refusal further a ≡ none → LowestIllegal (weigh-of a) (a .rates) (a .distortions) k → Unsound further a (refusal.Cell k)
+pub data UnsoundBy (most : ℕ) (further : Option Refusal) (short : Bool) (a : Asked) : Refusal → Type 0 where
+  early : {r : Refusal} → first-early most further short a ≡ some r → UnsoundBy most further short a r
+  illegal : {k : ℕ} → first-early most further short a ≡ none → LowestIllegal (weigh-of a) (a .rates) (a .distortions) k →
+      UnsoundBy most further short a (refusal.Cell k)
 
 -- none of the checks 1 to 7 fails
-pub record Sound (further : Option Refusal) (a : Asked) : Type 0 where
-  pub passed : early-refusal further a ≡ none
+pub record SoundBy (most : ℕ) (further : Option Refusal) (short : Bool) (a : Asked) : Type 0 where
+  pub passed : first-early most further short a ≡ none
   pub legal : AllLegal (weigh-of a) (a .rates) (a .distortions)
+
+-- both, of the four calls
+abbrev pub Unsound : Option Refusal → Asked → Refusal → Type 0
+Unsound further a = UnsoundBy most-scans further (buffers-short (a .N) (a .Q) (a .plan) (a .scratch)) a
+
+abbrev pub Sound : Option Refusal → Asked → Type 0
+Sound further a = SoundBy most-scans further (buffers-short (a .N) (a .Q) (a .plan) (a .scratch)) a

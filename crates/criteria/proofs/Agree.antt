@@ -4,7 +4,7 @@ use mathlib.Core.List.{List}
 use Prim.Native.Nat.{ℕ, _≤_}
 use native.Mathlib.Omega.{arith}
 use Rattle.criteria.specs.Order.{Best}
-use Rattle.criteria.specs.Choice.{Problem, UnderCeiling, InBudget, Ceiling, cost, Multiplier, Average, AverageFloor, Minmax, NoneAllowed, NoneWithin}
+use Rattle.criteria.specs.Choice.{Problem, UnderCeiling, InBudget, Ceiling, cost, Multiplier, Average, AverageFloor, Minmax, TrueBest, NoneAllowed, NoneWithin}
 
 pub record Agree (P P′ : Problem) : Type 0 where
   pub to : (t : List ℕ) → P .allowed t → P′ .allowed t
@@ -47,6 +47,11 @@ module _ {P P′ : Problem} (h : Agree P P′) where
   pub ceiling-agrees : (X : ℕ) {s : List ℕ} → Ceiling P X s → Ceiling P′ X s
   ceiling-agrees X =
       best-same (under-ceiling h X) (under-ceiling (agree-sym h) X) (λ t w. h .rate t (w .0)) (λ t w. h .distortion t (w .0))
+
+  pub true-best-agrees : (B : ℕ) {s : List ℕ} → TrueBest P B s → TrueBest P′ B s
+  true-best-agrees B =
+      best-same (λ t w. (h .to t (w .0), in-budget h B t (w .0) (w .1))) (λ t w. (h .from t (w .0), in-budget (agree-sym h) B t (w .0) (w .1)))
+      (λ t w. h .distortion t (w .0)) (λ t w. h .rate t (w .0))
 
   pub average-agrees : {B n d : ℕ} {s : List ℕ} → Average P B n d s → Average P′ B n d s
   average-agrees {B} {n} {d} {s} a = record {

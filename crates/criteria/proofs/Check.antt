@@ -9,7 +9,7 @@ use native.Mathlib.Omega.{arith}
 use lib.Dec.{T}
 use Rattle.criteria.specs.Order.{Then, lower, tie, First, Best}
 use Rattle.criteria.specs.Fraction.{gcd, Lowest}
-use Rattle.criteria.specs.Choice.{Problem, Ceiling, Multiplier, Average, AverageFloor, Minmax, NoneWithin, Floor, cost}
+use Rattle.criteria.specs.Choice.{Problem, Ceiling, Multiplier, Average, AverageFloor, Minmax, TrueBest, NoneWithin, Floor, cost}
 use Rattle.criteria.proofs.Order.{Ahead}
 use Rattle.criteria.proofs.Fraction.{lowest-gcd}
 use Rattle.criteria.specs.Found.{Certificate, at-zero, tied}
@@ -88,10 +88,17 @@ module _ (P : Problem) (fin : Finite P) where
   abbrev pub multiplier? : (n d : ℕ) (s : List ℕ) → Option (Multiplier P n d s)
   multiplier? n d s = best? (cost P n d) (P .rate) s
 
+  -- the best of those that have a k up to B
+  abbrev pub best-within? : (k : List ℕ → ℕ) (B : ℕ) (k₁ k₂ : List ℕ → ℕ) (s : List ℕ) → Option (Best (λ t. P .allowed t × (k t ≤ B)) k₁ k₂ s)
+  best-within? k B k₁ k₂ s =
+      with (with (some (λ w g. record { one = w; ahead = λ t c. g t (c .0) (c .1) })) (given (dec-× (fin .decide s) (decLe (k s) B))))
+      (every? (λ t. if-any (decLe (k t) B) (ahead? k₁ k₂ s t)))
+
   abbrev pub ceiling? : (X : ℕ) (s : List ℕ) → Option (Ceiling P X s)
-  ceiling? X s =
-      with (with (some (λ w g. record { one = w; ahead = λ t c. g t (c .0) (c .1) })) (given (dec-× (fin .decide s) (decLe (P .peak s) X))))
-      (every? (λ t. if-any (decLe (P .peak t) X) (ahead? (P .rate) (P .distortion) s t)))
+  ceiling? X s = best-within? (P .peak) X (P .rate) (P .distortion) s
+
+  abbrev pub true-best? : (B : ℕ) (s : List ℕ) → Option (TrueBest P B s)
+  true-best? B s = best-within? (P .rate) B (P .distortion) (P .rate) s
 
   abbrev pub certificate? : (n d B : ℕ) (s : List ℕ) → Option (Certificate P n d B s)
   certificate? n d B s =

@@ -6,7 +6,7 @@ use native.Mathlib.Nat.{le-refl, le-trans, lt-div-mul-add, div-lt-iff-lt-mul, le
 use native.Mathlib.Decide.{decLe}
 use native.Mathlib.Omega.{arith}
 use Rattle.criteria.specs.Order.{Best}
-use Rattle.criteria.specs.Choice.{Problem, UnderCeiling, InBudget, Ceiling, Multiplier, Average, Minmax, NoneAllowed, Floor, cost}
+use Rattle.criteria.specs.Choice.{Problem, UnderCeiling, InBudget, Ceiling, Multiplier, Average, Minmax, TrueBest, NoneAllowed, Floor, cost}
 use Rattle.criteria.specs.Passes.{Thriftiest, Passes, none-allowed, none-fits, zero-fits, by-slopes}
 use Rattle.criteria.proofs.Order.{then-le}
 use Rattle.criteria.proofs.Finite.{Finite, some-best, some-or-none}
@@ -27,6 +27,11 @@ module _ (P : Problem) (fin : Finite P) where
   pub some-ceiling : (X : ℕ) (t : List ℕ) → UnderCeiling P X t → (s : List ℕ) × Ceiling P X s
   some-ceiling X t w =
       some-best P fin (UnderCeiling P X) (λ u. dec-× (fin .decide u) (decLe (P .peak u) X)) (λ u w. w .0) (P .rate) (P .distortion) t w
+
+  -- if some allowed sequence is within B, there is the true best
+  pub some-true-best : (B : ℕ) (t : List ℕ) → InBudget P B t → (s : List ℕ) × TrueBest P B s
+  some-true-best B t w =
+      some-best P fin (InBudget P B) (λ u. dec-× (fin .decide u) (decLe (P .rate u) B)) (λ u w. w .0) (P .distortion) (P .rate) t w
 
   -- every budget has its count of plans ([13])
   pub some-passes : (B : ℕ) → (k : ℕ) × Passes P B k

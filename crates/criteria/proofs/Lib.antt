@@ -10,6 +10,7 @@ pub mod Passes
 pub mod Exist
 pub mod Demand
 pub mod Budget
+pub mod Between
 pub mod Ceilings
 pub mod Small
 pub mod Check

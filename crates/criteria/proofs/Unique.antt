@@ -3,7 +3,7 @@ use mathlib.Core.Path.{_≡_}
 use mathlib.Core.List.{List}
 use Prim.Native.Nat.{ℕ}
 use native.Mathlib.Omega.{arith}
-use Rattle.criteria.specs.Choice.{Problem, Ceiling, Multiplier, Average, AverageFloor, Minmax, Floor}
+use Rattle.criteria.specs.Choice.{Problem, Ceiling, Multiplier, Average, AverageFloor, Minmax, TrueBest, Floor}
 use Rattle.criteria.proofs.Order.{best-unique}
 use Rattle.criteria.proofs.Fraction.{lowest-unique}
 
@@ -30,6 +30,9 @@ module _ (P : Problem) where
         q .least n d s (p .lowest .whole) (p .plan) (p .fits),
       )) in
       (e .0, e .1, best-unique (rw (e .0, e .1) at (p .plan)) (q .plan))
+
+  pub true-best-unique : {B : ℕ} {s t : List ℕ} → TrueBest P B s → TrueBest P B t → s ≡ t
+  true-best-unique = best-unique
 
   -- .. with its floor
   pub average-floor-unique : {B n d n′ d′ F F′ : ℕ} {s s′ : List ℕ} → Average P B n d s → AverageFloor P B n d s F →

@@ -1,4 +1,4 @@
--- Document 01, "Four ways to choose", over any problem. Assumes nothing.
+-- Document 01, "Four ways to choose", and the fifth of document 02, [6], over any problem. Assumes nothing.
 use mathlib.Core.List.{List}
 use Prim.Native.Nat.{ℕ, _+_, _*_, _≤_}
 use Rattle.criteria.specs.Order.{Best}
@@ -56,6 +56,10 @@ module _ (P : Problem) where
     pub some-fits : (t : List ℕ) × UnderCeiling X t × (P .rate t ≤ B)
     pub least : (Y : ℕ) (t : List ℕ) → UnderCeiling Y t → P .rate t ≤ B → X ≤ Y
     pub plan : Ceiling X s
+
+  -- document 02, [6]: "the true least distortion within B, then least rate, then first"
+  abbrev pub TrueBest : ℕ → List ℕ → Type 0
+  TrueBest B s = Best (InBudget B) (P .distortion) (P .rate) s
 
   -- refusal 8, "no allowed sequence, whatever the limit"
   abbrev pub NoneAllowed : Type 0

@@ -7,7 +7,7 @@ use Prim.Native.Nat.{ℕ, _+_, _-_, _≤_, _<_}
 use native.Mathlib.Omega.{arith}
 use lib.Dec.{ltb}
 use lib.ListN.{length, getD, drop, replicate, length-append, length-replicate, length-drop, getD-replicate, List·getD-append}
-use lib.Seq.{sets, sets-eq, drop-at, ext-getD, getD-drop}
+use lib.Seq.{drop-at, ext-getD, getD-drop}
 use borrow.Author.Tests.{ltb-false, le-ltb}
 use Rattle.laws.proofs.Tests.{neither, never}
 use Rattle.tables.specs.declared.refusal.Refusal.{Refusal}
@@ -25,13 +25,6 @@ use Rattle.imports.specs.Parts.{Marks, KeptBehind}
 -- what is filled is as long as it was
 pub length-filled : (k x : ℕ) (t : List ℕ) → k ≤ length t → length (filled k x t) ≡ length t
 length-filled k x t h = omega (arith, length-append (replicate k x) (drop k t), length-replicate k x, length-drop k t)
-
--- zeros that are stored at the front fill it
-pub zeros-front : (k : ℕ) (s : List ℕ) → k ≤ length s → sets s 0 (replicate k 0) ≡ filled k 0 s
-zeros-front k s h =
-    let n : length (replicate {A = ℕ} k 0) ≡ k = length-replicate k 0 in
-    let m : 0 + length (replicate {A = ℕ} k 0) ≡ k = omega (arith, n) in
-    sets-eq (replicate k 0) s 0 (omega (arith, n)) ∙ ap (λ (i : ℕ). replicate k 0 ++ drop i s) m
 
 -- the first k cells of what is filled
 pub fill-at : (k x : ℕ) (t : List ℕ) (i : ℕ) → i < k → getD (filled k x t) i 0 ≡ x

@@ -5,19 +5,16 @@ use Prim.Native.Nat.{ℕ, suc, _+_}
 use native.Mathlib.Omega.{arith}
 use lib.ListN.{length, set}
 use lib.Seq.{sets}
-use mathlib.Core.Path.{_≡_, refl, sym, ap, _∙_}
-use Prim.Native.Nat.{ℕ, zero, suc, _+_, _<_}
+use mathlib.Core.Path.{sym, ap, _∙_}
+use Prim.Native.Nat.{zero, _<_}
 use native.Mathlib.Numerals.{add-one}
-use lib.ListN.{length, getD, set, replicate}
-use lib.Seq.{sets, set-set, set-comm}
-use mathlib.Core.List.{List, [], _∷_, _++_}
-use Prim.Native.Nat.{ℕ, suc, _+_, _<_}
-use lib.ListN.{length, getD, take, set, replicate, replicate-append-replicate}
-use lib.Seq.{sets, length-take-le}
-use mathlib.Core.Path.{_≡_, sym, ap, _∙_}
-use Prim.Native.Nat.{ℕ, _+_, _<_}
-use lib.ListN.{length, getD, take, set}
-use lib.Seq.{sets, take-suc, length-take-le}
+use lib.ListN.{getD, replicate}
+use lib.Seq.{set-set, set-comm}
+use lib.ListN.{take, replicate-append-replicate}
+use lib.Seq.{length-take-le}
+use Prim.Native.Nat.{_≤_}
+use lib.ListN.{drop, length-replicate}
+use lib.Seq.{take-suc, sets-eq}
 
 -- what is stored right after l is stored with it
 pub sets-append : (d l m : List ℕ) (at to : ℕ) → to ≡ at + length l → sets (sets d at l) to m ≡ sets d at (l ++ m)
@@ -54,3 +51,10 @@ pub copied-more : (d s : List ℕ) (at i : ℕ) → i < length s → set (sets d
 copied-more d s at i h =
     sets-append d (take i s) (getD s i 0 ∷ []) at (at + i) (ap (λ (n : ℕ). at + n) (sym (length-take-le i s (omega arith))))
     ∙ ap (sets d at) (sym (take-suc s i 0 h) ∙ ap (λ (n : ℕ). take n s) (sym (add-one i)))
+
+-- zeros from the front on
+pub zeros-front : (k : ℕ) (s : List ℕ) → k ≤ length s → sets s 0 (replicate k 0) ≡ replicate k 0 ++ drop k s
+zeros-front k s h =
+    let n : length (replicate {A = ℕ} k 0) ≡ k = length-replicate k 0 in
+    let m : 0 + length (replicate {A = ℕ} k 0) ≡ k = omega (arith, n) in
+    sets-eq (replicate k 0) s 0 (omega (arith, n)) ∙ ap (λ (i : ℕ). replicate k 0 ++ drop i s) m

@@ -1,5 +1,4 @@
 // The two calls: what is lent is made, the call answers, and a line says what it answered and what it left.
-use crate::cells::fill_table;
 use crate::cells::made;
 use crate::show::put_table;
 use crate::show::put_text;
@@ -18,6 +17,7 @@ use shown::input::word;
 use shown::number::end_line;
 use shown::number::put;
 use shown::number::put_refusal;
+use shown::table::fill_table;
 
 // Where the cells of the two tables before an import start, and the pattern of the text before an export.
 const RATES_FROM: u32 = 2000000000;

@@ -3,24 +3,9 @@ use bytes::cast::number_to_cell;
 use bytes::numbers::four;
 use libc::STDIN_FILENO;
 use shown::stream::generated;
-use std::num::wrapping_add_u32;
 
 // The cells of the longest table.
 pub const ROOM: usize = 262144;
-
-// Cell i of a table before an import: `from` and i, a cell that no list has, so that whatever is written or left shows. No table has more
-// cells than there is room for, and the remainder and the wrapping sum, which change nothing then, ask nothing of a caller.
-pub fn unwritten(i: usize, from: u32) -> u32 {
-    wrapping_add_u32(from, (i % ROOM) as u32)
-}
-
-pub fn fill_table(table: &mut [u32], from: u32) {
-    let mut i = 0;
-    while i < table.len() {
-        table[i] = unwritten(i, from);
-        i += 1;
-    }
-}
 
 // The next cell of the input; past its end it is 0.
 fn cell() -> u32 {

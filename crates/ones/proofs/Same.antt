@@ -17,7 +17,7 @@ use Rattle.tables.specs.Tables.{scan-of, series, AllOne}
 use Rattle.tables.specs.Legal.{LegalBeside, LegalCell, LowestIllegal}
 use Rattle.tables.proofs.SeriesLaws.{kept-map}
 use Rattle.tables.proofs.OneLaws.{total-ones}
-use Rattle.checks.specs.Planning.{Asked, Unsound, early, illegal, Sound, early-refusal, lengths-out, table-of, problem-of, weigh-of, fourth-check}
+use Rattle.checks.specs.Planning.{Asked, Unsound, early, illegal, Sound, first-early, early-refusal, lengths-out, table-of, problem-of, weigh-of, fourth-check}
 use Rattle.promise.proofs.Moves.{ceiling-moves, multiplier-moves, minmax-moves, average-moves}
 use Rattle.ones.specs.Before.{PlainCell, LowestPlain, plain-refusal, PlainUnsound, plain-early, plain-illegal, PlainSound, plain-series, plain-problem}
 use Rattle.ones.specs.Ones.{WeightsOne, AsBefore}
@@ -68,7 +68,7 @@ module _ (a : Asked) (w : WeightsOne a) where
 
   -- the checks
   early-same : (further : Option Refusal) → early-refusal further a ≡ plain-refusal further a
-  unfolding early-refusal plain-refusal
+  unfolding first-early plain-refusal
   early-same further =
       rw (eq-eqb (length (a .weights)) (a .N) (w .long), or-false (lengths-out (a .N) (a .Q) (a .rates) (a .distortions))) refl
 

@@ -20,7 +20,7 @@ use Rattle.checks.specs.Planning.{Asked, table-of, planning-checks, lengths-out
 use Rattle.promise.specs.declared.PlanAnswer.{PlanAnswer}
 use Rattle.promise.specs.declared.MinmaxAnswer.{MinmaxAnswer}
 use Rattle.promise.specs.declared.AverageAnswer.{AverageAnswer}
-use Rattle.promise.specs.Promise.{PromiseOver, IsCeilingPlan, IsMultiplierPlan, IsMinmaxPlan, IsAveragePlan, plan-reply, minmax-reply, average-reply}
+use Rattle.promise.specs.Promise.{PromiseOver, wiped, IsCeilingPlan, IsMultiplierPlan, IsMinmaxPlan, IsAveragePlan, plan-reply, minmax-reply, average-reply}
 
 -- "Beside a forbidden rate the distortion may be any value .. . Every other distortion is 0 to 1,048,575."
 abbrev pub PlainCell : List ℕ → List ℕ → ℕ → Type 0
@@ -69,7 +69,7 @@ plain-problem a = problem (plain-series (table-of a))
 abbrev pub PlainPromise : Option Refusal → (a : Asked) → (within : List ℕ → Type 0) → (Plan : List ℕ → List ℕ → Type 0) → (plan scratch : List ℕ) →
     Reply → (plan′ scratch′ : List ℕ) → Type 0
 PlainPromise further a within Plan plan scratch reply plan′ scratch′ =
-    PromiseOver a (PlainUnsound further a) (PlainSound further a) (plain-problem a) within Plan plan scratch reply plan′ scratch′
+    PromiseOver a (PlainUnsound further a) (PlainSound further a) (plain-problem a) within Plan (scratch′ ≡ scratch) (scratch′ ≡ wiped a scratch) plan reply plan′
 
 abbrev pub PlainCeiling : Asked → ℕ → (plan scratch : List ℕ) → PlanAnswer → (plan′ scratch′ : List ℕ) → Type 0
 PlainCeiling a X plan scratch r plan′ scratch′ =

@@ -6,15 +6,13 @@
 //     5, 6 and 7 are 1, 2 and 3 in a group that has weights of its own, and a group with any of the others is lent a 1 for each scan;
 //   N, Q, law, the lengths of the two tables and of the two buffers as they are lent, and how many calls follow;
 //   of a group with weights, how many are lent;
-//   the cells (cells.rt);
-//   of a group with weights, these, a byte each (weights.rt);
+//   the cells (coded.rt of shown);
+//   of a group with weights, these, a byte each (weights.rt of shown);
 //   the calls, three numbers each: which (1 ceiling, 2 multiplier, 3 minmax, 4 average), X or n or B, and d.
 mod asks;
-mod cells;
 mod feed;
 mod lend;
 mod show;
-mod weights;
 
 // The tables, the weights and the buffers at their largest, and some room past that, so that longer ones can be lent too.
 fn main() {

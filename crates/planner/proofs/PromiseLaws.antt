@@ -3,7 +3,6 @@ use mathlib.Core.Path.{_≡_, refl, sym, ap, _∙_}
 use mathlib.Core.Bool.{false}
 use mathlib.Core.List.{List}
 use Prim.Native.Nat.{ℕ}
-use lib.ListN.{getD}
 use Rattle.tables.specs.Tables.{scratch-need}
 use Rattle.criteria.specs.Choice.{Problem, InBudget, NoneAllowed, NoneWithin}
 use Rattle.tables.specs.declared.refusal.Refusal.{Refusal}
@@ -18,7 +17,7 @@ use Rattle.checks.specs.Stages.{ended, CheckedAs}
 use Rattle.checks.specs.declared.stage.Stage.{Stage}
 use Rattle.checks.specs.declared.stage.Stage.the-variants as stage
 use mathlib.Core.Option.{Option}
-use Rattle.seek.specs.Sought.{Framed, Closed, Finished, ThriftyTotals}
+use Rattle.seek.specs.Sought.{Framed, Closed, Finished}
 use Rattle.planner.specs.Given.{Delivered}
 use Rattle.seek.specs.Started.{StartedAs, start-reply, fits, none-allowed, none-fits}
 use Rattle.tables.proofs.RefusalLaws.{answered-or-refused}
@@ -64,29 +63,6 @@ pub started-refused : {further : Option Refusal} {a : Asked} {B : ℕ} {Plan : L
     Sound further a → StartedAs (problem-of a) (a .N) (a .Q) B scratch scratch′ (start-reply st) → st ≡ started.Refused r →
     Promise further a (InBudget (problem-of a) B) Plan plan scratch (refused r) plan scratch′
 started-refused {r = r} sound h e = refused-start r sound h (ap start-reply e)
-
--- totals with the same values are those of the same plan
-same-totals : {P : Problem} {B : ℕ} {u t : Totals} → ThriftyTotals P B u → total-values u ≡ total-values t → ThriftyTotals P B t
-same-totals h e = record {
-  plan = h .plan;
-  thriftiest = h .thriftiest;
-  totals = record {
-    rate = sym (ap (λ (l : List ℕ). getD l 0 0) e) ∙ h .totals .rate;
-    distortion = sym (ap (λ (l : List ℕ). getD l 1 0) e) ∙ h .totals .distortion;
-    peak = sym (ap (λ (l : List ℕ). getD l 2 0) e) ∙ h .totals .peak;
-  };
-  fits = h .fits;
-}
-
-plan-start : {P : Problem} {N Q B : ℕ} {before after : List ℕ} {o : Reply} {t : Totals} → StartedAs P N Q B before after o → o ≡ answered (total-values t) →
-    ThriftyTotals P B t × Framed (scratch-need N Q) before after
-plan-start (fits h f) e = (same-totals h (ap (λ (x : Reply). x .values) e), f)
-plan-start (none-allowed n w) e = absurd (answered-or-refused refusal.NoSequence (sym e))
-plan-start (none-fits n w) e = absurd (answered-or-refused refusal.NoneWithin (sym e))
-
-pub started-plan : {P : Problem} {N Q B : ℕ} {before after : List ℕ} {st : Started} {t : Totals} → StartedAs P N Q B before after (start-reply st) → st ≡ started.Plan t →
-    ThriftyTotals P B t × Framed (scratch-need N Q) before after
-started-plan h e = plan-start h (ap start-reply e)
 
 pub started-given : {further : Option Refusal} {a : Asked} {within : List ℕ → Type 0} {Plan : List ℕ → List ℕ → Type 0} {plan scratch middle plan′ scratch′ : List ℕ}
     {reply : Reply} → Sound further a → Framed (scratch-need (a .N) (a .Q)) scratch middle → Delivered Plan (a .N) (a .Q) plan middle reply plan′ scratch′ →

@@ -5,7 +5,7 @@ use Prim.Native.Nat.{ℕ}
 use Rattle.criteria.proofs.Agree.{Agree}
 use Rattle.tables.specs.declared.refusal.Refusal.{Refusal}
 use Rattle.tables.specs.Legal.{SameShown}
-use Rattle.checks.specs.Planning.{Asked, Unsound, early, illegal, Sound, early-refusal, asking-under, table-of, problem-of, weigh-of, fourth-check}
+use Rattle.checks.specs.Planning.{Asked, Unsound, early, illegal, Sound, first-early, early-refusal, asking-under, table-of, problem-of, weigh-of, fourth-check}
 use Rattle.tables.proofs.Hidden.{shown-agrees, all-legal-same, lowest-illegal-same}
 use Rattle.promise.specs.declared.PlanAnswer.{PlanAnswer}
 use Rattle.promise.specs.declared.MinmaxAnswer.{MinmaxAnswer}
@@ -23,7 +23,7 @@ module _ (a : Asked) (D : List ℕ) (shown : SameShown (a .rates) (a .distortion
   same = shown-agrees (table-of a) D shown
 
   early-same : (further : Option Refusal) → early-refusal further a ≡ early-refusal further other
-  unfolding early-refusal
+  unfolding first-early
   early-same further = rw (shown .long)
 
   sound-same : (further : Option Refusal) → Sound further a → Sound further other

@@ -2,7 +2,7 @@
 use mathlib.Core.Path.{_≡_}
 use mathlib.Core.Bool.{Bool, true, false}
 use mathlib.Core.Option.{Option}
-use mathlib.Core.List.{List, _∷_, _++_}
+use mathlib.Core.List.{List}
 use Prim.Native.Nat.{ℕ, _≤_}
 use native.Mathlib.Omega.{arith}
 use lib.ListN.{length}
@@ -14,9 +14,8 @@ use Rattle.tables.specs.Refusals.{Reply, numberOf}
 use Rattle.tables.specs.Limits.{most-scans}
 use Rattle.tables.specs.Tables.{cells, scratch-need}
 use Rattle.checks.specs.Checks.{when}
-use Rattle.checks.specs.Planning.{Asked, Unsound, early, illegal, early-refusal, range-checks, scans-out, settings-out, buffers-short, multiplier-out, fourth-check}
+use Rattle.checks.specs.Planning.{Asked, Unsound, early, illegal, first-early, planning-checks, sizes-out, scans-out, settings-out, buffers-short, multiplier-out, fourth-check}
 use Rattle.checks.proofs.GiveLaws.{Gives, given, gives-when, gives-first}
-use Rattle.checks.proofs.PlanningLaws.{sizes-out, size-checks}
 use Rattle.promise.specs.Promise.{Promise, unsound, no-sequence, none-within, planned}
 
 -- the tables, the weights and the lent buffers of a call are of the sizes that it needs
@@ -56,9 +55,9 @@ gives-not P false r e = tt
 
 -- so the first refusal of the checks 1 to 7 is neither
 first-not-by-size : {further : Option Refusal} {a : Asked} {r : Refusal} → Gives NotBySize further → SizesFit a → Unsound further a r → NotBySize r
-unfolding early-refusal
+unfolding first-early
 first-not-by-size {further} {a} f s (early e) =
-    given NotBySize (gives-first NotBySize (range-checks most-scans (a .N) (a .Q) (a .lawless) ++ (further ∷ size-checks a)) (
+    given NotBySize (gives-first NotBySize (planning-checks most-scans (a .N) (a .Q) (a .lawless) further (sizes-out a) (buffers-short (a .N) (a .Q) (a .plan) (a .scratch))) (
       gives-when NotBySize (scans-out (a .N)) refusal.Scans (below-five (omega arith)),
       (
         gives-when NotBySize (settings-out (a .Q)) refusal.Settings (below-five (omega arith)),

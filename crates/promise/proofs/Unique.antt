@@ -1,5 +1,6 @@
 -- One answer and one content of every lent byte for equal inputs, of each planning call. Assumes nothing.
 use mathlib.Core.Path.{_≡_, sym, ap, _∙_}
+use mathlib.Core.Logic.{_⊎_, inl, inr}
 use mathlib.Core.List.{List}
 use Prim.Native.Nat.{ℕ, suc}
 use lib.ListN.{getD}
@@ -17,34 +18,51 @@ use Rattle.promise.specs.declared.MinmaxAnswer.{MinmaxAnswer}
 use Rattle.promise.specs.declared.MinmaxAnswer.the-variants as minmax-answer
 use Rattle.promise.specs.declared.AverageAnswer.{AverageAnswer}
 use Rattle.promise.specs.declared.AverageAnswer.the-variants as average-answer
-use Rattle.promise.specs.Promise.{Promise, unsound, no-sequence, none-within, planned, handed, totals, IsCeilingPlan, IsMultiplierPlan, IsMinmaxPlan, IsAveragePlan, plan-reply, minmax-reply, average-reply, CeilingPromise, MultiplierPromise, MinmaxPromise, AveragePromise}
+use Rattle.promise.specs.Promise.{PromiseOver, Promise, unsound, no-sequence, none-within, planned, handed, totals, IsCeilingPlan, IsMultiplierPlan, IsMinmaxPlan, IsAveragePlan, plan-reply, minmax-reply, average-reply, CeilingPromise, MultiplierPromise, MinmaxPromise, AveragePromise}
 use Rattle.checks.proofs.PlanningLaws.{unsound-unique, sound-or-not}
 use mathlib.Core.Option.{Option}
 
--- One relation, one outcome: where the plan is one, and no plan is given where nothing is within.
+-- One relation, one outcome: where the first refusal is one and none is given where the checks pass, the plan is one, and no plan is given where
+-- nothing is within.
+module _ {a : Asked} {Refused : Refusal → Type 0} {Passed : Type 0} {P : Problem} {within : List ℕ → Type 0} {Plan : List ℕ → List ℕ → Type 0} {plan : List ℕ}
+    (one-refusal : (r r′ : Refusal) → Refused r → Refused r′ → r ≡ r′) (not-both : (r : Refusal) → Refused r → Passed → ⊥)
+    (one-plan : (s v s′ v′ : List ℕ) → Plan s v → Plan s′ v′ → (s ≡ s′) × (v ≡ v′))
+    (is-within : (s v : List ℕ) → Plan s v → P .allowed s × within s) where
+  -- of two answers: the same number, the same values and the same plan buffer, and scratch as it was after both or cleared after both
+  pub over-unique : {Same Cleared Same′ Cleared′ : Type 0} {reply reply′ : Reply} {p p′ : List ℕ} →
+      PromiseOver a Refused Passed P within Plan Same Cleared plan reply p → PromiseOver a Refused Passed P within Plan Same′ Cleared′ plan reply′ p′ →
+      (reply ≡ reply′) × (p ≡ p′) × ((Same × Same′) ⊎ (Cleared × Cleared′))
+  over-unique (unsound {r = r} u e f g) (unsound {r = r′} u′ e′ f′ g′) = (e ∙ ap refused (one-refusal r r′ u u′) ∙ sym e′, cc, inl (g, g′))
+  over-unique (unsound {r = r} u e f g) (no-sequence s n e′ f′ g′) = absurd (not-both r u s)
+  over-unique (unsound {r = r} u e f g) (none-within s n e′ f′ g′) = absurd (not-both r u s)
+  over-unique (unsound {r = r} u e f g) (planned s t v p e′ f′ g′) = absurd (not-both r u s)
+  over-unique (no-sequence s n e f g) (unsound {r = r} u e′ f′ g′) = absurd (not-both r u s)
+  over-unique (no-sequence s n e f g) (no-sequence s′ n′ e′ f′ g′) = (cc, cc, inr (g, g′))
+  over-unique (no-sequence s n e f g) (none-within s′ n′ e′ f′ g′) = absurd (n (n′ .exist .0) (n′ .exist .1))
+  over-unique (no-sequence s n e f g) (planned s′ t v p e′ f′ g′) = absurd (n t (is-within t v p .0))
+  over-unique (none-within s n e f g) (unsound {r = r} u e′ f′ g′) = absurd (not-both r u s)
+  over-unique (none-within s n e f g) (no-sequence s′ n′ e′ f′ g′) = absurd (n′ (n .exist .0) (n .exist .1))
+  over-unique (none-within s n e f g) (none-within s′ n′ e′ f′ g′) = (cc, cc, inr (g, g′))
+  over-unique (none-within s n e f g) (planned s′ t v p e′ f′ g′) = absurd (n .none-within t (is-within t v p .1))
+  over-unique (planned s t v p e f g) (unsound {r = r} u e′ f′ g′) = absurd (not-both r u s)
+  over-unique (planned s t v p e f g) (no-sequence s′ n′ e′ f′ g′) = absurd (n′ t (is-within t v p .0))
+  over-unique (planned s t v p e f g) (none-within s′ n′ e′ f′ g′) = absurd (n′ .none-within t (is-within t v p .1))
+  over-unique (planned s t v p e f g) (planned s′ t′ v′ p′ e′ f′ g′) =
+      let q = one-plan t v t′ v′ p p′ in
+      (e ∙ ap answered (q .1) ∙ sym e′, f ∙ ap (λ (x : List ℕ). handed a x plan) (q .0) ∙ sym f′, inr (g, g′))
+
+-- a buffer that is one of two contents after both has one content
+pub one-content : {s s′ x y : List ℕ} → ((s ≡ x) × (s′ ≡ x)) ⊎ ((s ≡ y) × (s′ ≡ y)) → s ≡ s′
+one-content (inl e) = e .0 ∙ sym (e .1)
+one-content (inr e) = e .0 ∙ sym (e .1)
+
+-- .. of the four calls
 module _ {further : Option Refusal} {a : Asked} {within : List ℕ → Type 0} {Plan : List ℕ → List ℕ → Type 0} {plan scratch : List ℕ}
     (one-plan : (s v s′ v′ : List ℕ) → Plan s v → Plan s′ v′ → (s ≡ s′) × (v ≡ v′))
     (is-within : (s v : List ℕ) → Plan s v → problem-of a .allowed s × within s) where
   pub promise-unique : {reply reply′ : Reply} {p p′ s s′ : List ℕ} → Promise further a within Plan plan scratch reply p s →
       Promise further a within Plan plan scratch reply′ p′ s′ → (reply ≡ reply′) × (p ≡ p′) × (s ≡ s′)
-  promise-unique (unsound u e f g) (unsound u′ e′ f′ g′) = (e ∙ ap refused (unsound-unique u u′) ∙ sym e′, cc, cc)
-  promise-unique (unsound u e f g) (no-sequence s n e′ f′ g′) = absurd (sound-or-not u s)
-  promise-unique (unsound u e f g) (none-within s n e′ f′ g′) = absurd (sound-or-not u s)
-  promise-unique (unsound u e f g) (planned s t v p e′ f′ g′) = absurd (sound-or-not u s)
-  promise-unique (no-sequence s n e f g) (unsound u e′ f′ g′) = absurd (sound-or-not u s)
-  promise-unique (no-sequence s n e f g) (no-sequence s′ n′ e′ f′ g′) = (cc, cc, cc)
-  promise-unique (no-sequence s n e f g) (none-within s′ n′ e′ f′ g′) = absurd (n (n′ .exist .0) (n′ .exist .1))
-  promise-unique (no-sequence s n e f g) (planned s′ t v p e′ f′ g′) = absurd (n t (is-within t v p .0))
-  promise-unique (none-within s n e f g) (unsound u e′ f′ g′) = absurd (sound-or-not u s)
-  promise-unique (none-within s n e f g) (no-sequence s′ n′ e′ f′ g′) = absurd (n′ (n .exist .0) (n .exist .1))
-  promise-unique (none-within s n e f g) (none-within s′ n′ e′ f′ g′) = (cc, cc, cc)
-  promise-unique (none-within s n e f g) (planned s′ t v p e′ f′ g′) = absurd (n .none-within t (is-within t v p .1))
-  promise-unique (planned s t v p e f g) (unsound u e′ f′ g′) = absurd (sound-or-not u s)
-  promise-unique (planned s t v p e f g) (no-sequence s′ n′ e′ f′ g′) = absurd (n′ t (is-within t v p .0))
-  promise-unique (planned s t v p e f g) (none-within s′ n′ e′ f′ g′) = absurd (n′ .none-within t (is-within t v p .1))
-  promise-unique (planned s t v p e f g) (planned s′ t′ v′ p′ e′ f′ g′) =
-      let q = one-plan t v t′ v′ p p′ in
-      (e ∙ ap answered (q .1) ∙ sym e′, f ∙ ap (λ (x : List ℕ). handed a x plan) (q .0) ∙ sym f′, cc)
+  promise-unique h h′ = let u = over-unique (λ r r′. unsound-unique) (λ r. sound-or-not) one-plan is-within h h′ in (u .0, u .1, one-content (u .2))
 
 -- Each call's plan is one, and within its limit.
 module _ (P : Problem) where

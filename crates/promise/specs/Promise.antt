@@ -19,37 +19,43 @@ use Rattle.promise.specs.declared.AverageAnswer.{AverageAnswer}
 use Rattle.promise.specs.declared.AverageAnswer.the-variants as average-answer
 use Rattle.walk.specs.Walked.{total-values}
 
+-- the first k of a buffer are zero, and the others as they were
+abbrev pub cleared : ℕ → List ℕ → List ℕ
+cleared k buffer = replicate k 0 ++ drop k buffer
+
 -- "the first N × Q scratch bytes are zero", "extra bytes never change"
 abbrev pub wiped : Asked → List ℕ → List ℕ
-wiped a scratch = replicate (scratch-need (a .N) (a .Q)) 0 ++ drop (scratch-need (a .N) (a .Q)) scratch
+wiped a scratch = cleared (scratch-need (a .N) (a .Q)) scratch
 
 -- "Settings go to the first N bytes of the plan buffer, one each."
 abbrev pub handed : Asked → List ℕ → List ℕ → List ℕ
 handed a s plan = s ++ drop (a .N) plan
 
--- Of a call on the question a: `Refused r` says that r is the refusal of the first of its checks 1 to 7 that fails, `Passed` that none does; P
--- is its problem, `within` what the limit asks of a sequence, `Plan s v` that s is the plan and v the values of the answer; plan and scratch
--- are the lent buffers before the call, plan′ and scratch′ after it.
+-- Of a call on the question a: `Refused r` says that r is the refusal of the first of its checks 1 to 7 (19 among them, where it has that) that
+-- fails, `Passed` that none does; P is its problem, `within` what the limit asks of a sequence, `Plan s v` that s is the plan and v the values
+-- of the answer; `Same` says that all scratch is as it was, `Cleared` that what is needed of it is zero and the rest is as it was; plan is the
+-- lent buffer before the call, plan′ after it.
 pub data PromiseOver (a : Asked) (Refused : Refusal → Type 0) (Passed : Type 0) (P : Problem) (within : List ℕ → Type 0)
-    (Plan : List ℕ → List ℕ → Type 0) (plan scratch : List ℕ) (reply : Reply) (plan′ scratch′ : List ℕ) : Type 0 where
-  -- "On refusals 1 to 7 all buffers stay the same."
-  unsound : {r : Refusal} → Refused r → reply ≡ refused r → plan′ ≡ plan → scratch′ ≡ scratch →
-      PromiseOver a Refused Passed P within Plan plan scratch reply plan′ scratch′
+    (Plan : List ℕ → List ℕ → Type 0) (Same Cleared : Type 0) (plan : List ℕ) (reply : Reply) (plan′ : List ℕ) : Type 0 where
+  -- "On refusals 1 to 7 all buffers stay the same." (And on 19.)
+  unsound : {r : Refusal} → Refused r → reply ≡ refused r → plan′ ≡ plan → Same →
+      PromiseOver a Refused Passed P within Plan Same Cleared plan reply plan′
   -- 8, "no allowed sequence, whatever the limit"; "on 8 and 9 the plan buffer stays the same"
-  no-sequence : Passed → NoneAllowed P → reply ≡ refused refusal.NoSequence → plan′ ≡ plan → scratch′ ≡ wiped a scratch →
-      PromiseOver a Refused Passed P within Plan plan scratch reply plan′ scratch′
+  no-sequence : Passed → NoneAllowed P → reply ≡ refused refusal.NoSequence → plan′ ≡ plan → Cleared →
+      PromiseOver a Refused Passed P within Plan Same Cleared plan reply plan′
   -- 9, "allowed sequences exist, none within ceiling or budget"
-  none-within : Passed → NoneWithin P within → reply ≡ refused refusal.NoneWithin → plan′ ≡ plan → scratch′ ≡ wiped a scratch →
-      PromiseOver a Refused Passed P within Plan plan scratch reply plan′ scratch′
+  none-within : Passed → NoneWithin P within → reply ≡ refused refusal.NoneWithin → plan′ ≡ plan → Cleared →
+      PromiseOver a Refused Passed P within Plan Same Cleared plan reply plan′
   -- "On success only the first N bytes of the plan buffer may differ."
-  planned : Passed → (s v : List ℕ) → Plan s v → reply ≡ answered v → plan′ ≡ handed a s plan → scratch′ ≡ wiped a scratch →
-      PromiseOver a Refused Passed P within Plan plan scratch reply plan′ scratch′
+  planned : Passed → (s v : List ℕ) → Plan s v → reply ≡ answered v → plan′ ≡ handed a s plan → Cleared →
+      PromiseOver a Refused Passed P within Plan Same Cleared plan reply plan′
 
--- .. with the checks and the problem that a question has; `further` is the check that the call has between 3 and 5
+-- .. of the four calls, with the checks and the problem that a question has, and one scratch; `further` is the check that the call has between
+-- 3 and 5
 abbrev pub Promise : Option Refusal → (a : Asked) → (within : List ℕ → Type 0) → (Plan : List ℕ → List ℕ → Type 0) → (plan scratch : List ℕ) → Reply →
     (plan′ scratch′ : List ℕ) → Type 0
 Promise further a within Plan plan scratch reply plan′ scratch′ =
-    PromiseOver a (Unsound further a) (Sound further a) (problem-of a) within Plan plan scratch reply plan′ scratch′
+    PromiseOver a (Unsound further a) (Sound further a) (problem-of a) within Plan (scratch′ ≡ scratch) (scratch′ ≡ wiped a scratch) plan reply plan′
 
 -- "An answer holds rate, distortion and peak, for minmax also X, for average also n, d and F."
 abbrev pub totals : Problem → List ℕ → List ℕ

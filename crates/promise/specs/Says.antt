@@ -4,7 +4,7 @@ use mathlib.Core.Logic.{_↔_}
 use mathlib.Core.Option.{Option}
 use mathlib.Core.List.{List}
 use Prim.Native.Nat.{ℕ}
-use Rattle.criteria.specs.Choice.{NoneAllowed, NoneWithin}
+use Rattle.criteria.specs.Choice.{Problem, NoneAllowed, NoneWithin}
 use Rattle.criteria.specs.Demand.{Demand}
 use Rattle.tables.specs.declared.refusal.Refusal.{Refusal}
 use Rattle.tables.specs.declared.refusal.Refusal.the-variants as refusal
@@ -22,9 +22,12 @@ pub record SomeAnswer {Answer : Type 0} (promise : Answer → List ℕ → List 
   pub promised : promise answer plan scratch
 
 -- "'None within the limit' and 'none at all' are said exactly when true": of a question that passes the checks 1 to 7
-pub record SaysExactly (further : Option Refusal) (a : Asked) (within : List ℕ → Type 0) (reply : Reply) : Type 0 where
-  pub eight : (reply ≡ refused refusal.NoSequence) ↔ (Sound further a × NoneAllowed (problem-of a))
-  pub nine : (reply ≡ refused refusal.NoneWithin) ↔ (Sound further a × NoneWithin (problem-of a) within)
+pub record ExactlyOver (Passed : Type 0) (P : Problem) (within : List ℕ → Type 0) (reply : Reply) : Type 0 where
+  pub eight : (reply ≡ refused refusal.NoSequence) ↔ (Passed × NoneAllowed P)
+  pub nine : (reply ≡ refused refusal.NoneWithin) ↔ (Passed × NoneWithin P within)
+
+abbrev pub SaysExactly : Option Refusal → Asked → (List ℕ → Type 0) → Reply → Type 0
+SaysExactly further a within reply = ExactlyOver (Sound further a) (problem-of a) within reply
 
 -- What an answer with an average plan tells; the plan buffer was `plan` before the call and is `plan′` after it.
 pub record Answered (a : Asked) (B : ℕ) (m : AveragePlan) (plan plan′ : List ℕ) : Type 0 where

@@ -11,11 +11,12 @@ use borrow.Author.Tests.{ltb-false, ne-eqb}
 use Rattle.tables.specs.declared.refusal.Refusal.{Refusal}
 use Rattle.tables.specs.declared.refusal.Refusal.the-variants as refusal
 use Rattle.tables.specs.Refusals.{Reply, refused, numberOf, carriedBy}
-use Rattle.tables.specs.Limits.{most-scans, most-settings}
+use Rattle.criteria.specs.Choice.{Problem}
+use Rattle.tables.specs.Limits.{most-scans}
 use Rattle.tables.specs.Tables.{cells, scratch-need}
-use Rattle.checks.specs.Planning.{Asked, Unsound, early, illegal, channels-out, scans-out, settings-out}
+use Rattle.checks.specs.Planning.{Asked, UnsoundBy, early, illegal, channels-out, scans-out, settings-out}
 use Rattle.checks.proofs.GiveLaws.{Gives, given, gives-when, gives-else, gives-first, gives-found}
-use Rattle.checks.proofs.PlanningLaws.{early-gives, admitted, sizes-exact, sound-fit, sound-plan}
+use Rattle.checks.proofs.PlanningLaws.{early-gives, early-fronted, sizes-exact}
 use Rattle.rules.proofs.FieldLaws.{rules-give}
 use Rattle.tables.specs.Law.{allows, law-out}
 use Rattle.rules.specs.Rules.{header-rules}
@@ -37,7 +38,7 @@ use Rattle.checks.proofs.CheckLaws.{none-else, none-when}
 use Rattle.planfile.proofs.ReadLaws.{two-lengths}
 use Rattle.planfile.proofs.WriteLaws.{scans-inside}
 use Rattle.planfile.proofs.Accepted.{passed}
-use Rattle.promise.specs.Promise.{Promise, unsound, no-sequence, none-within, planned}
+use Rattle.promise.specs.Promise.{PromiseOver, unsound, no-sequence, none-within, planned}
 use Rattle.telling.specs.Told.{lent, word-of}
 use Rattle.qpl.specs.Surface.{room-told, read-bytes}
 use Rattle.telling.specs.Parts.{Tellable}
@@ -83,15 +84,13 @@ write-light f settings room =
     gives-else Little (found refusal.Entry (first-from bad 0 (f .scans))) none (gives-found Little (f .scans) refusal.Entry bad 0 (λ i h. omega arith)) (λ z. tt)))
 
 -- a cell's number is below the number of cells
-pub unsound-light : {further : Option Refusal} {a : Asked} {r : Refusal} → Gives Little further → Unsound further a r → carriedBy r < 2 ^ 32
-unsound-light {further} {a} {r} f (early e) =
-    given Little (early-gives Little further a (omega arith) (omega arith) (omega arith) f (omega arith) (omega arith)) e
-unsound-light {further} {a} f (illegal e l) =
-    let p = admitted {further = further} {a = a} e in
-    let n = in-range {most = most-scans} {x = a .N} (p .scans) in
-    let q = in-range {most = most-settings} {x = a .Q} (p .settings) in
-    let w = sizes-exact a (p .lengths) in
-    omega (arith, l .inside, w .0, cells-small {N = a .N} {Q = a .Q} (n .1) (q .1))
+pub unsound-light : {most : ℕ} {further : Option Refusal} {short : Bool} {a : Asked} {r : Refusal} → most ≤ most-scans → Gives Little further →
+    UnsoundBy most further short a r → carriedBy r < 2 ^ 32
+unsound-light {most} {further} {short} {a} {r} h f (early e) =
+    given Little (early-gives Little most further short a (omega arith) (omega arith) (omega arith) f (omega arith) (omega arith)) e
+unsound-light {most} {further} {short} {a} h f (illegal e l) =
+    let p = early-fronted most further short a e in
+    omega (arith, l .inside, sizes-exact a (p .lengths) .0, cells-small {N = a .N} {Q = a .Q} (omega (arith, p .scans)) (p .settings))
 
 refusal-tellable : {reply : Reply} {n : ℕ} (r : Refusal) → reply ≡ refused r → carriedBy r < 2 ^ 32 → Tellable reply n
 refusal-tellable r e h = rw e (record { holds = λ z. absurd (never-zero r z); small = λ z. h })
@@ -116,15 +115,16 @@ read-tellable file answer room = or-tellable (read-refusal file (lent read-bytes
     let n = in-range {most = most-scans} {x = fields-of file .scans} (neither _ _ (p .rules .scans) .0) in
     lent-some read-bytes answer room (omega (arith, p .enough, n .0)))
 
--- a planning call whose answer needs so many bytes
-pub promise-tellable : {further : Option Refusal} {a : Asked} {within : List ℕ → Type 0} {Plan : List ℕ → List ℕ → Type 0}
-    {plan scratch p s : List ℕ} {reply : Reply} (need answer room : ℕ) → Gives Little further → ((t v : List ℕ) → Plan t v → 8 * length v ≤ need) →
-    a .plan ≡ lent need answer room → Promise further a within Plan plan scratch reply p s → Tellable reply answer
-promise-tellable need answer room little fits m (unsound {r = r} u e f g) = refusal-tellable r e (unsound-light little u)
-promise-tellable need answer room little fits m (no-sequence o n e f g) = refusal-tellable refusal.NoSequence e (omega arith)
-promise-tellable need answer room little fits m (none-within o n e f g) = refusal-tellable refusal.NoneWithin e (omega arith)
-promise-tellable need answer room little fits m (planned o t v q e f g) =
-    let some-room : 1 ≤ lent need answer room = omega (arith, sound-plan o, sound-fit o .some-scans, m) in
+-- a planning call whose answer needs so many bytes, and which asks for the plan's
+pub promise-tellable : {a : Asked} {Refused : Refusal → Type 0} {Passed : Type 0} {P : Problem} {within : List ℕ → Type 0} {Plan : List ℕ → List ℕ → Type 0}
+    {Same Cleared : Type 0} {plan p : List ℕ} {reply : Reply} (need answer room : ℕ) → ((r : Refusal) → Refused r → Little r) → (Passed → 1 ≤ a .plan) →
+    ((t v : List ℕ) → Plan t v → 8 * length v ≤ need) → a .plan ≡ lent need answer room →
+    PromiseOver a Refused Passed P within Plan Same Cleared plan reply p → Tellable reply answer
+promise-tellable need answer room little enough fits m (unsound {r = r} u e f g) = refusal-tellable r e (little r u)
+promise-tellable need answer room little enough fits m (no-sequence o n e f g) = refusal-tellable refusal.NoSequence e (omega arith)
+promise-tellable need answer room little enough fits m (none-within o n e f g) = refusal-tellable refusal.NoneWithin e (omega arith)
+promise-tellable need answer room little enough fits m (planned o t v q e f g) =
+    let some-room : 1 ≤ lent need answer room = omega (arith, enough o, m) in
     tellable-as e (or-tellable none v answer tt (λ z. omega (arith, fits t v q, lent-some need answer room some-room)))
 
 pub write-carries : (f : Fields) (settings : List ℕ) (room : ℕ) (r : Refusal) → write-of f settings room ≡ refused r → carriedBy r < 2 ^ 32

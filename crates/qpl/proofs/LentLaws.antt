@@ -6,23 +6,31 @@ use mathlib.Core.List.{List, _++_, append-assoc}
 use Prim.Native.Nat.{ℕ, _*_, _≤_}
 use lib.ListN.{length, take, drop, take-append-drop}
 use lib.Seq.{drop-append-le, length-take-le}
+use native.Mathlib.Omega.{arith}
+use lib.Dec.{ltb}
+use Rattle.criteria.specs.Choice.{Problem}
 use Rattle.tables.specs.declared.refusal.Refusal.{Refusal}
+use Rattle.tables.specs.declared.refusal.Refusal.the-variants as refusal
+use Rattle.tables.specs.Limits.{most-short-budget}
 use Rattle.tables.specs.Refusals.{Reply}
 use Rattle.planfile.specs.Reading.{entries, fields-of, read-refusal, settings-after}
 use Rattle.blocks.specs.File.{entry-at}
 use Rattle.planfile.proofs.Accepted.{passed}
-use Rattle.promise.specs.Promise.{Promise, unsound, no-sequence, none-within, planned}
+use Rattle.promise.specs.Promise.{PromiseOver, Promise, unsound, no-sequence, none-within, planned, plan-reply}
 use Rattle.tables.specs.Law.{Law}
-use Rattle.checks.specs.Planning.{asking-under}
+use Rattle.checks.specs.Planning.{Asked, asking-under}
 use Rattle.exports.specs.Export.{export-text, export-refusal, text-after}
 use Rattle.exports.proofs.ExportLaws.{export-room}
-use Rattle.checks.proofs.GiveLaws.{Gives}
-use Rattle.checks.proofs.PlanningLaws.{sound-plan}
+use Rattle.checks.proofs.GiveLaws.{Gives, gives-when}
+use Rattle.checks.proofs.PlanningLaws.{sound-fit, sound-plan}
+use Rattle.promise.specs.declared.PlanAnswer.{PlanAnswer}
+use Rattle.best.specs.Best.{BestPromise}
+use Rattle.best.proofs.CallLaws.{ready}
 use Rattle.telling.specs.Told.{Told, lent}
 use Rattle.telling.specs.Parts.{Tellable}
 use Rattle.telling.proofs.AnswerLaws.{tellable-as, told-as}
 use Rattle.qpl.specs.Surface.{Tells}
-use Rattle.qpl.proofs.CarryLaws.{Little, promise-tellable}
+use Rattle.qpl.proofs.CarryLaws.{Little, unsound-light, promise-tellable}
 
 -- a buffer whose front stays the same stays the same
 same-front : (room : ℕ) (l : List ℕ) {p : List ℕ} → p ≡ take room l → p ++ drop room l ≡ l
@@ -37,18 +45,14 @@ handed-front room n t l h e =
     ∙ ap (λ (x : List ℕ). t ++ x) (sym (drop-append-le n (take room l) (drop room l) h) ∙ ap (drop n) (take-append-drop room l))
 
 -- a planning call
-promise-whole : {further : Option Refusal} {lawless : Bool} {law : Law} {N Q S : ℕ} {R D W : List ℕ} {within : List ℕ → Type 0} {Plan : List ℕ → List ℕ → Type 0}
-    {scratch p s : List ℕ} {reply : Reply} {m : ℕ} (room : ℕ) (plan : List ℕ) →
-    Promise further (asking-under lawless law N Q R D W (length (take room plan)) S) within Plan (take room plan) scratch reply p s →
-    length (take room plan) ≡ m → Promise further (asking-under lawless law N Q R D W m S) within Plan plan scratch reply (p ++ drop room plan) s
-promise-whole {further} {lawless} {law} {N} {Q} {S} {R} {D} {W} {within} {Plan} {scratch} {p} {s} {reply} room plan promise e = rw e at (whole promise)
-  where
-    whole : Promise further (asking-under lawless law N Q R D W (length (take room plan)) S) within Plan (take room plan) scratch reply p s →
-        Promise further (asking-under lawless law N Q R D W (length (take room plan)) S) within Plan plan scratch reply (p ++ drop room plan) s
-    whole (unsound {r = r} u e f g) = unsound {r = r} u e (same-front room plan f) g
-    whole (no-sequence o n e f g) = no-sequence o n e (same-front room plan f) g
-    whole (none-within o n e f g) = none-within o n e (same-front room plan f) g
-    whole (planned o t v q e f g) = planned o t v q e (handed-front room N t plan (sound-plan o) f) g
+pub promise-whole : {a : Asked} {Refused : Refusal → Type 0} {Passed : Type 0} {P : Problem} {within : List ℕ → Type 0} {Plan : List ℕ → List ℕ → Type 0}
+    {Same Cleared : Type 0} {p : List ℕ} {reply : Reply} (room : ℕ) (plan : List ℕ) → (Passed → a .N ≤ length (take room plan)) →
+    PromiseOver a Refused Passed P within Plan Same Cleared (take room plan) reply p →
+    PromiseOver a Refused Passed P within Plan Same Cleared plan reply (p ++ drop room plan)
+promise-whole room plan h (unsound {r = r} u e f g) = unsound {r = r} u e (same-front room plan f) g
+promise-whole room plan h (no-sequence o n e f g) = no-sequence o n e (same-front room plan f) g
+promise-whole room plan h (none-within o n e f g) = none-within o n e (same-front room plan f) g
+promise-whole {a = a} room plan h (planned o t v q e f g) = planned o t v q e (handed-front room (a .N) t plan (h o) f) g
 
 -- the front of a buffer has the room that is lent
 pub front-length : {room m : ℕ} (l : List ℕ) → (room ≡ m) × (room ≤ length l) → length (take room l) ≡ m
@@ -62,7 +66,8 @@ module _ {A : Type 0} (reply-of : A → Reply) (given : A) (need : ℕ) (answer 
     (said : reply ≡ reply-of given) where
   -- it can be told
   pub planning-tellable : Gives Little further → ((t v : List ℕ) → Plan t v → 8 * length v ≤ need) → Tellable reply (length answer)
-  planning-tellable little fits = tellable-as said (promise-tellable need (length answer) (length plan) little fits (front-length plan lends) promise)
+  planning-tellable little fits = tellable-as said (promise-tellable need (length answer) (length plan) (λ r. unsound-light (omega arith) little)
+      (λ o. omega (arith, sound-plan o, sound-fit o .some-scans)) fits (front-length plan lends) promise)
 
   -- and once it is told, the call over the whole buffer has kept its promise
   pub planning-tells : {word : ℕ} {answer′ : List ℕ} → Told reply answer word answer′ →
@@ -70,7 +75,26 @@ module _ {A : Type 0} (reply-of : A → Reply) (given : A) (need : ℕ) (answer 
       (p ++ drop room plan) s) answer word answer′
   planning-tells {word} {answer′} told = record {
     given = given;
-    kept = promise-whole room plan promise (front-length plan lends);
+    kept = rw (front-length plan lends) at (promise-whole room plan sound-plan promise);
+    told = told-as answer word answer′ said told;
+  }
+
+-- The true best over the room that is lent.
+module _ (given : PlanAnswer) (answer plan : List ℕ) {lawless : Bool} {law : Law} {N Q S B room : ℕ} {R D W choices cells p choices′ cells′ : List ℕ} {reply : Reply}
+    (lends : (room ≡ lent 24 (length answer) (length plan)) × (room ≤ length plan))
+    (promise : BestPromise (asking-under lawless law N Q R D W (length (take room plan)) S) B (take room plan) choices cells given p choices′ cells′)
+    (said : reply ≡ plan-reply given) where
+  pub best-tellable : Tellable reply (length answer)
+  best-tellable = tellable-as said (promise-tellable 24 (length answer) (length plan)
+      (λ r. unsound-light (omega arith) (gives-when Little (ltb most-short-budget B) refusal.Budget (omega arith)))
+      (λ o. let k = ready o in omega (arith, k .plan-room, k .fit .some-scans)) (λ t v q. omega (arith, ap length (q .1))) (front-length plan lends) promise)
+
+  pub best-tells : {word : ℕ} {answer′ : List ℕ} → Told reply answer word answer′ →
+      Tells plan-reply (λ a. BestPromise (asking-under lawless law N Q R D W (lent 24 (length answer) (length plan)) S) B plan choices cells a
+      (p ++ drop room plan) choices′ cells′) answer word answer′
+  best-tells {word} {answer′} told = record {
+    given = given;
+    kept = rw (front-length plan lends) at (promise-whole room plan (λ o. ready o .plan-room) promise);
     told = told-as answer word answer′ said told;
   }
 

@@ -11,12 +11,12 @@ use lib.ListN.{length}
 use borrow.Author.Tests.{lt-ltb}
 use Rattle.tables.specs.declared.refusal.Refusal.{Refusal}
 use Rattle.tables.specs.declared.refusal.Refusal.the-variants as refusal
-use Rattle.tables.specs.Limits.{most-scans}
+use Rattle.tables.specs.Limits.{most-scans, most-short-scans}
 use Rattle.tables.specs.Refusals.{Reply, refused, numberOf, carriedBy}
 use Rattle.checks.proofs.CheckLaws.{all-pass}
-use Rattle.checks.specs.Checks.{first-refusal, when, found, or-else}
+use Rattle.checks.specs.Checks.{zero-or-over, first-refusal, when, found, or-else}
 use mathlib.Core.List.{[], _∷_, _++_}
-use Rattle.checks.specs.Planning.{range-checks, Asked, early-refusal, scans-out, settings-out, lengths-out, weights-out, buffers-short, asking}
+use Rattle.checks.specs.Planning.{Asked, front-checks, first-early, settings-out, lengths-out, weights-out, asking}
 use Rattle.tables.specs.Law.{law-out}
 use Rattle.checks.proofs.RangeLaws.{in-range}
 use Rattle.laws.proofs.Tests.{never, neither}
@@ -26,6 +26,8 @@ use Rattle.planfile.specs.Reading.{read-refusal-under, broken-field-under, brok
 use Rattle.rules.proofs.FieldLaws.{rules-hold}
 use Rattle.promise.specs.Promise.{CeilingPromise, MultiplierPromise, MinmaxPromise, AveragePromise, plan-reply, minmax-reply, average-reply}
 use Rattle.promise.proofs.Unique.{ceiling-settled, multiplier-settled, minmax-settled, average-settled}
+use Rattle.best.specs.Best.{choices-need, totals-need, budget-check, best-short, BestPromise}
+use Rattle.between.proofs.Unique.{best-settled}
 use Rattle.telling.specs.Told.{word-of, Told, lent}
 use Rattle.qpl.specs.Surface.{Tells, read-bytes}
 use Rattle.telling.proofs.AnswerLaws.{number-small, word-refused}
@@ -78,6 +80,16 @@ module _ (N Q law : ℕ) (rates distortions weights plan scratch answer : List �
       AllSame word word′ t t′ p p′ s s′
   average-tells-once B = tells-once average-reply answer (λ r r′. average-settled {B = B} r r′)
 
+-- .. and the true best, with one buffer more
+pub best-tells-once : (N Q law B : ℕ) (rates distortions weights plan choices cells answer : List ℕ) {word word′ : ℕ} {t t′ p p′ s s′ c c′ : List ℕ} →
+    Tells plan-reply (λ r. BestPromise (asked-of 24 N Q law rates distortions weights plan choices answer) B plan choices cells r p s c) answer word t →
+    Tells plan-reply (λ r. BestPromise (asked-of 24 N Q law rates distortions weights plan choices answer) B plan choices cells r p′ s′ c′) answer word′ t′ →
+    AllSame word word′ t t′ p p′ s s′ × (c ≡ c′)
+best-tells-once N Q law B rates distortions weights plan choices cells answer x y =
+    let u = best-settled {a = asked-of 24 N Q law rates distortions weights plan choices answer} (x .given) (y .given) (x .kept) (y .kept) in
+    let w = told-once answer (ap plan-reply (u .0)) (x .told) (y .told) in
+    ((w .0, w .1, u .1, u .2), u .3)
+
 -- what follows a stage matters only where it passes
 after-stage : (o x y : Option Refusal) → (o ≡ none → x ≡ y) → or-else o x ≡ or-else o y
 after-stage none x y h = h refl
@@ -96,16 +108,17 @@ short-answer-read file answer room short = rw short
     rw (lt-ltb 0 (fields-of file .scans) (omega (arith, n .0))) refl))))
 
 -- the checks of a planning call whose answer buffer is too short: 1 to 5, and then 6
-abbrev pub short-checks : Option Refusal → (N Q law : ℕ) (rates distortions weights : List ℕ) → List (Option Refusal)
-short-checks further N Q law rates distortions weights =
-    range-checks most-scans N Q (law-out law) ++ (further ∷ when (lengths-out N Q rates distortions || weights-out N weights) refusal.Lengths ∷ some refusal.Buffer ∷ [])
+abbrev pub short-checks : (most : ℕ) → Option Refusal → (N Q law : ℕ) (rates distortions weights : List ℕ) → List (Option Refusal)
+short-checks most further N Q law rates distortions weights =
+    front-checks most N Q (law-out law) further (lengths-out N Q rates distortions || weights-out N weights) ++ (some refusal.Buffer ∷ [])
 
--- A planning call then gives the first of 1 to 5, and else 6.
-pub short-answer-plan : (further : Option Refusal) (N Q law : ℕ) (rates distortions weights : List ℕ) (need answer room scratch : ℕ) → ltb answer need ≡ true →
-    early-refusal further (asking N Q law rates distortions weights (lent need answer room) scratch)
-    ≡ first-refusal (short-checks further N Q law rates distortions weights)
-unfolding early-refusal
-short-answer-plan further N Q law rates distortions weights need answer room scratch short = rw short (of (scans-out N) (in-range {most = most-scans} {x = N}))
+-- A planning call then gives the first of 1 to 5, and else 6, whatever the other buffers (`others` says that one of them is too short).
+pub short-answer-plan : (most : ℕ) (further : Option Refusal) (N Q law : ℕ) (rates distortions weights : List ℕ) (need answer room scratch : ℕ) (others : Bool) →
+    ltb answer need ≡ true →
+    first-early most further (ltb (lent need answer room) N || others) (asking N Q law rates distortions weights (lent need answer room) scratch)
+    ≡ first-refusal (short-checks most further N Q law rates distortions weights)
+unfolding first-early
+short-answer-plan most further N Q law rates distortions weights need answer room scratch others short = rw short (of (zero-or-over most N) (in-range {most = most} {x = N}))
   where
     later : Bool → List (Option Refusal)
     later b =
@@ -113,18 +126,26 @@ short-answer-plan further N Q law rates distortions weights need answer room scr
         ∷ when b refusal.Buffer ∷ []
 
     -- no room is short of a scan
-    of : (b : Bool) → (b ≡ false → (1 ≤ N) × (N ≤ most-scans)) →
-        or-else (when b refusal.Scans) (first-refusal (later (buffers-short N Q 0 scratch))) ≡ or-else (when b refusal.Scans) (first-refusal (later true))
+    of : (b : Bool) → (b ≡ false → (1 ≤ N) × (N ≤ most)) →
+        or-else (when b refusal.Scans) (first-refusal (later (ltb 0 N || others))) ≡ or-else (when b refusal.Scans) (first-refusal (later true))
     of true h = refl
     of false h = rw (lt-ltb 0 N (omega (arith, h refl .0))) refl
 
 -- so it is refused
-pub short-answer-refused : (further : Option Refusal) (N Q law : ℕ) (rates distortions weights : List ℕ) (need answer room scratch : ℕ) → ltb answer need ≡ true →
-    early-refusal further (asking N Q law rates distortions weights (lent need answer room) scratch) ≡ none → ⊥
-short-answer-refused further N Q law rates distortions weights need answer room scratch short e =
-    let p = all-pass (short-checks further N Q law rates distortions weights) (sym (short-answer-plan further N Q law rates distortions weights need answer room scratch short) ∙ e) in
+pub short-answer-refused : (most : ℕ) (further : Option Refusal) (N Q law : ℕ) (rates distortions weights : List ℕ) (need answer room scratch : ℕ) (others : Bool) →
+    ltb answer need ≡ true → first-early most further (ltb (lent need answer room) N || others) (asking N Q law rates distortions weights (lent need answer room) scratch) ≡ none → ⊥
+short-answer-refused most further N Q law rates distortions weights need answer room scratch others short e =
+    let p = all-pass (short-checks most further N Q law rates distortions weights)
+    (sym (short-answer-plan most further N Q law rates distortions weights need answer room scratch others short) ∙ e) in
     let z : some refusal.Buffer ≡ none = p .1 .1 .1 .1 .1 .0 in
     never cc
+
+-- .. of the true best
+pub short-answer-best : (B N Q law : ℕ) (rates distortions weights : List ℕ) (answer room choices cells : ℕ) → ltb answer 24 ≡ true →
+    first-early most-short-scans (budget-check B) (best-short N Q B (lent 24 answer room) choices cells) (asking N Q law rates distortions weights (lent 24 answer room) choices)
+    ≡ first-refusal (short-checks most-short-scans (budget-check B) N Q law rates distortions weights)
+short-answer-best B N Q law rates distortions weights answer room choices cells =
+    short-answer-plan most-short-scans (budget-check B) N Q law rates distortions weights 24 answer room choices (ltb choices (choices-need N Q B) || ltb cells (totals-need Q B))
 
 -- Equal words are of equal refusals.
 pub word-settles : (r r′ : Refusal) → word-of (refused r) ≡ word-of (refused r′) → r ≡ r′

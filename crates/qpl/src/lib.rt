@@ -1,6 +1,7 @@
-// The C surface (include/qpl.h): the room question, import and export of lists, the reader and the writer of plan files, and the four planning
-// calls. Each function is one call of the layer below. It gives back 0, or a refusal's number with what it carries in the high 32 bits; what
-// it answers goes to a lent buffer.
+// The C surface (include/qpl.h): the room question, import and export of lists, the reader and the writer of plan files, the four planning
+// calls, and the true best of a short series. Each function is one call of the layer below. It gives back 0, or a refusal's number with what it
+// carries in the high 32 bits; what it answers goes to a lent buffer.
+use best::plan::best_plan;
 use checks::stage::Stage;
 use checks::stage::then;
 use exports::export::export;
@@ -33,6 +34,7 @@ ghost use mathlib.Core.List.{[], _∷_};
 ghost use lib.ListN.{length};
 ghost use Rattle.checks.specs.Planning.{asking};
 ghost use Rattle.promise.specs.Promise.{CeilingPromise, MultiplierPromise, MinmaxPromise, AveragePromise, «plan-reply», «minmax-reply», «average-reply»};
+ghost use Rattle.best.specs.Best.{BestPromise};
 ghost use Rattle.planfile.specs.Reading.{«read-of», «read-refusal», «settings-after»};
 ghost use Rattle.checks.specs.Checks.{«or-answer»};
 ghost use Rattle.imports.specs.Import.{«import-of»};
@@ -310,4 +312,37 @@ pub extern "C" fn qpl_average(
         scratch,
     );
     tell(average_answer(told), answer)
+}
+
+// rate, distortion, peak
+#[no_mangle]
+pub extern "C" fn qpl_best(
+    scans: u64,
+    settings: u64,
+    law: u64,
+    budget: u64,
+    rates: &[u32],
+    distortions: &[u32],
+    weights: &[u8],
+    plan: &mut [u8],
+    choices: &mut [u8],
+    totals: &mut [u32],
+    answer: &mut [u8],
+) -> u64
+    ensures { λ r. ⌜ Tells plan-reply (λ a. BestPromise (asking scans settings law (now (rates .entry)) (now (distortions .entry)) (now (weights .entry)) (Lent 24 (length (now (answer .entry))) (length (now (plan .entry)))) (length (now (choices .entry)))) budget (now (plan .entry)) (now (choices .entry)) (now (totals .entry)) a (now (plan .exit)) (now (choices .exit)) (now (totals .exit))) (now (answer .entry)) r (now (answer .exit)) ⌝ }
+{
+    let room = lent(24, answer.len(), plan.len());
+    let told = best_plan(
+        scans,
+        settings,
+        law,
+        budget,
+        rates,
+        distortions,
+        weights,
+        &mut plan[..room],
+        choices,
+        totals,
+    );
+    tell(plan_answer(told), answer)
 }

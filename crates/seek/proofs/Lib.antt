@@ -1,1 +1,2 @@
 pub mod SeekLaws
+pub mod StartLaws

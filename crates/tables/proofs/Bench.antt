@@ -8,8 +8,8 @@ use lib.Dec.{lit≤, lit<}
 use Rattle.criteria.specs.Choice.{Problem, Multiplier}
 use Rattle.criteria.specs.Passes.{Thriftiest, Slope, last, fitting, over, none-fits, zero-fits, by-slopes}
 use Rattle.criteria.proofs.Finite.{Finite}
-use Rattle.criteria.proofs.Check.{proof, with, average?, average-floor?, none-within?, ceiling?, minmax?, multiplier?, best?, given}
-use Rattle.tables.specs.Bench.{tableT, tableU, T, U, AverageClaim, HasWithin, HasTotals, claims, more-claims, Every, _also_, no-more}
+use Rattle.criteria.proofs.Check.{proof, with, average?, average-floor?, none-within?, ceiling?, true-best?, minmax?, multiplier?, best?, given}
+use Rattle.tables.specs.Bench.{tableT, tableU, T, U, AverageClaim, HasWithin, HasTotals, claims, best-claims, more-claims, Every, _also_, no-more}
 use Rattle.tables.specs.Law.{allows}
 use Rattle.tables.proofs.Listing.{table-finite}
 use Rattle.tables.proofs.LawLaws.{law?}
@@ -57,6 +57,17 @@ bench =
       proof (answer? U U-finite _ _ _ _ _) tt,
       record { within = (proof (allowed? U U-finite (1 ∷ [])) tt, lit≤ tt); distortion = refl },
     )
+
+-- the true bests of document 02, [6]
+pub best-bench : Every best-claims
+unfolding decLe decLt ℕ-discrete allows
+best-bench =
+    proof (true-best? U U-finite _ _) tt
+    also proof (true-best? T T-finite _ _) tt
+    also proof (true-best? T T-finite _ _) tt
+    also proof (true-best? T T-finite _ _) tt
+    also proof (true-best? T T-finite _ _) tt
+    also no-more
 
 -- T's sequences, and the counts of document 02, [13]
 pub more-bench : Every more-claims

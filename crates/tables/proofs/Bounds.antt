@@ -63,7 +63,7 @@ legal-anywhere weigh rates distortions e l k = by-place (decLt k (length rates))
       inl (rw (List·getD-eq-default distortions 0 {n = k} (omega arith)) (omega arith, omega arith)),
     )
 
-unmarked : {A : Type 0} {r : ℕ} → r ≢ forbidden → A ⊎ (r ≡ forbidden) → A
+pub unmarked : {A : Type 0} {r : ℕ} → r ≢ forbidden → A ⊎ (r ≡ forbidden) → A
 unmarked n (inl a) = a
 unmarked n (inr e) = absurd (n e)
 

@@ -7,7 +7,7 @@ use native.Mathlib.Omega.{arith}
 use lib.Dec.{eqb}
 use lib.ListN.{getD}
 use Rattle.tables.specs.declared.refusal.Refusal.{Refusal}
-use Rattle.tables.specs.declared.refusal.Refusal.the-variants.{Scans, Settings, StepLaw, Multiplier, Lengths, Buffer, Cell, NoSequence, NoneWithin, Channels, FileLength, Block, Header, Entry, Malformed, OutOfRange, Twice}
+use Rattle.tables.specs.declared.refusal.Refusal.the-variants.{Scans, Settings, StepLaw, Multiplier, Lengths, Buffer, Cell, NoSequence, NoneWithin, Channels, FileLength, Block, Header, Entry, Malformed, OutOfRange, Twice, Budget}
 use Rattle.tables.specs.Refusals.{Reply, refused, answered, numberOf, carriedBy}
 
 -- the refusal of a number that carries k
@@ -28,7 +28,8 @@ refusal-of n k =
     (cond (eqb n 13) (Header k)
     (cond (eqb n 14) (Entry k)
     (cond (eqb n 16) (Malformed k)
-    (cond (eqb n 17) (OutOfRange k) (Twice k))))))))))))))))
+    (cond (eqb n 17) (OutOfRange k)
+    (cond (eqb n 18) (Twice k) Budget))))))))))))))))
 
 pub refusal-back : (r : Refusal) → refusal-of (numberOf r) (carriedBy r) ≡ r
 refusal-back Scans = refl
@@ -48,6 +49,7 @@ refusal-back (Entry e) = refl
 refusal-back (Malformed line) = refl
 refusal-back (OutOfRange line) = refl
 refusal-back (Twice line) = refl
+refusal-back Budget = refl
 
 pub refused-unique : {r r′ : Refusal} → refused r ≡ refused r′ → r ≡ r′
 refused-unique {r} {r′} e =
@@ -71,6 +73,7 @@ never-zero (Entry k) e = omega arith
 never-zero (Malformed line) e = omega arith
 never-zero (OutOfRange line) e = omega arith
 never-zero (Twice line) e = omega arith
+never-zero Budget e = omega arith
 
 -- an answer is no refusal
 pub answered-or-refused : {v : List ℕ} (r : Refusal) → answered v ≡ refused r → ⊥

@@ -2,7 +2,7 @@
 use mathlib.Core.Path.{_≡_}
 use mathlib.Core.List.{List, [], _∷_}
 use Prim.Native.Nat.{ℕ}
-use Rattle.criteria.specs.Choice.{Problem, UnderCeiling, InBudget, Ceiling, Multiplier, Average, AverageFloor, Minmax, NoneWithin}
+use Rattle.criteria.specs.Choice.{Problem, UnderCeiling, InBudget, Ceiling, Multiplier, Average, AverageFloor, Minmax, TrueBest, NoneWithin}
 use Rattle.criteria.specs.Passes.{Passes}
 use Rattle.tables.specs.Tables.{Table, table, planning}
 
@@ -67,6 +67,16 @@ more-claims =
     ∷ Passes T 17 4
     ∷ Passes T 12 4
     ∷ Passes T 8 1
+    ∷ []
+
+-- document 02, [6]: of U at 7 ("8 is possible"), and of T at 18, 17, 12 and 9
+abbrev pub best-claims : List (Type 0)
+best-claims =
+    TrueBest U 7 (1 ∷ [])
+    ∷ TrueBest T 18 (0 ∷ 0 ∷ [])
+    ∷ TrueBest T 17 (0 ∷ 1 ∷ [])
+    ∷ TrueBest T 12 (1 ∷ 1 ∷ [])
+    ∷ TrueBest T 9 (1 ∷ 1 ∷ [])
     ∷ []
 
 -- every claim of a list holds

@@ -1,4 +1,4 @@
--- The numbers of document 01. Assumes nothing.
+-- The numbers of document 01, and of document 02, [6]. Assumes nothing.
 use Prim.Native.Nat.{ℕ}
 
 -- "N scans, 1 to 1,024."
@@ -24,6 +24,13 @@ most-total = 1073740800
 -- "n from 0 and d from 1, both at most 1,073,741,823"
 abbrev pub most-term : ℕ
 most-term = 1073741823
+
+-- document 02, [6]: "N is at most 64 and B at most 4,095"
+abbrev pub most-short-scans : ℕ
+most-short-scans = 64
+
+abbrev pub most-short-budget : ℕ
+most-short-budget = 4095
 
 -- "For C channels (1 to 1,048,576)"
 abbrev pub most-channels : ℕ

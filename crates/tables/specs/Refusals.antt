@@ -2,7 +2,7 @@
 use mathlib.Core.List.{List, [], _∷_}
 use Prim.Native.Nat.{ℕ}
 use Rattle.tables.specs.declared.refusal.Refusal.{Refusal}
-use Rattle.tables.specs.declared.refusal.Refusal.the-variants.{Scans, Settings, StepLaw, Multiplier, Lengths, Buffer, Cell, NoSequence, NoneWithin, Channels, FileLength, Block, Header, Entry, Malformed, OutOfRange, Twice}
+use Rattle.tables.specs.declared.refusal.Refusal.the-variants.{Scans, Settings, StepLaw, Multiplier, Lengths, Buffer, Cell, NoSequence, NoneWithin, Channels, FileLength, Block, Header, Entry, Malformed, OutOfRange, Twice, Budget}
 
 -- the column "No."
 abbrev pub numberOf : Refusal → ℕ
@@ -23,6 +23,7 @@ numberOf (Entry e) = 14
 numberOf (Malformed line) = 16
 numberOf (OutOfRange line) = 17
 numberOf (Twice line) = 18
+numberOf Budget = 19
 
 -- the column "Carries", and 0 where that is empty
 abbrev pub carriedBy : Refusal → ℕ
@@ -43,6 +44,7 @@ carriedBy (Entry e) = e
 carriedBy (Malformed line) = line
 carriedBy (OutOfRange line) = line
 carriedBy (Twice line) = line
+carriedBy Budget = 0
 
 -- What a caller gets back from any call: 0 and the values of an answer, or a refusal's number and what it carries.
 pub record Reply : Type 0 where

@@ -1,8 +1,13 @@
-// The numbers of document 01.
+// The numbers of document 01, and of document 02, [6].
 
 pub const MOST_SCANS: u64 = 1024;
 
 pub const MOST_SETTINGS: u64 = 16;
+
+// Of a short series: its scans, and the budget within which its true best is found.
+pub const MOST_SHORT_SCANS: u64 = 64;
+
+pub const MOST_SHORT_BUDGET: u64 = 4095;
 
 pub const MOST_CHANNELS: u64 = 1048576;
 

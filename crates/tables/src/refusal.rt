@@ -37,6 +37,8 @@ pub enum Refusal {
     OutOfRange(u64),
     // 18: a line names a cell that one before it named; the line's number
     Twice(u64),
+    // 19: B over 4,095 where the true best is asked
+    Budget,
 }
 
 // The documents' number of a refusal.
@@ -61,6 +63,7 @@ pub fn number(r: Refusal) -> u64
         Refusal::Malformed(_) => 16,
         Refusal::OutOfRange(_) => 17,
         Refusal::Twice(_) => 18,
+        Refusal::Budget => 19,
     }
 }
 
@@ -86,5 +89,6 @@ pub fn carried(r: Refusal) -> u64
         Refusal::Malformed(line) => line,
         Refusal::OutOfRange(line) => line,
         Refusal::Twice(line) => line,
+        Refusal::Budget => 0,
     }
 }

@@ -43,7 +43,7 @@ value-more d v i h e f =
     ∙ sets-append d (eights (take i v)) (le 8 x) 0 (8 * i) long
     ∙ ap (sets d 0) (eights-more v i h ∙ ap (λ (n : ℕ). eights (take n v)) (sym (add-one i)))
 
-pub number-small : (r : Refusal) → numberOf r ≤ 18
+pub number-small : (r : Refusal) → numberOf r ≤ 19
 number-small refusal.Scans = omega arith
 number-small refusal.Settings = omega arith
 number-small refusal.StepLaw = omega arith
@@ -61,6 +61,7 @@ number-small (refusal.Entry e) = omega arith
 number-small (refusal.Malformed line) = omega arith
 number-small (refusal.OutOfRange line) = omega arith
 number-small (refusal.Twice line) = omega arith
+number-small refusal.Budget = omega arith
 
 pub word-refused : (r : Refusal) → word-of (refused r) ≡ numberOf r + 4294967296 * carriedBy r
 unfolding word-of

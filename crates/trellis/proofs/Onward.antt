@@ -22,7 +22,7 @@ least-unique {s = s} {t = t} p q =
     let b = q .ahead s (p .one) in
     first-antisym s t (then-tie a (then-le b)) (then-tie b (then-le a))
 
-then-shift : {a b : ℕ} {P : Type 0} (c : ℕ) → Then a b P → Then (c + a) (c + b) P
+pub then-shift : {a b : ℕ} {P : Type 0} (c : ℕ) → Then a b P → Then (c + a) (c + b) P
 then-shift c (lower h) = lower (omega arith)
 then-shift c (tie h p) = tie (omega arith) p
 

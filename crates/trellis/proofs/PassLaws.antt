@@ -37,13 +37,35 @@ pub sixteen-zero : Sixteen (replicate 16 (replicate 16 0))
 sixteen-zero = (refl, λ p h. ap length (getD-replicate 16 p (replicate 16 0) [] h) ∙ refl)
 
 -- what may follow at a later scan is what the law allows
-follows-later : (law : Law) (i p q : ℕ) → 0 < i → law p q → Follows law i p q
+pub follows-later : (law : Law) (i p q : ℕ) → 0 < i → law p q → Follows law i p q
 follows-later law zero p q h l = absurd (omega arith)
 follows-later law (suc i) p q h l = l
 
-later-follows : (law : Law) (i p q : ℕ) → 0 < i → Follows law i p q → law p q
+pub later-follows : (law : Law) (i p q : ℕ) → 0 < i → Follows law i p q → law p q
 later-follows law zero p q h l = absurd (omega arith)
 later-follows law (suc i) p q h l = l
+
+module _ (t : Table) {room : ℕ} (fit : Fit (t .N) (t .Q) (t .rates) (t .distortions) (t .weights) room) where
+  -- the cells of a scan fit: they are legal with its weight
+  cells-fit : (i weight from n : ℕ) → i < t .N → weight ≡ weight-at t i → from ≡ scan-start (t .Q) i → from + n ≡ scan-start (t .Q) (suc i) →
+      CellsFit weight from n (t .rates) (t .distortions)
+  cells-fit i weight from n h w e g =
+      let s = scan-inside (t .N) (t .Q) i h in
+      record {
+        in-rates = omega (arith, s .1, fit .rates-long);
+        in-distortions = omega (arith, s .1, fit .distortions-long);
+        legal = λ q l. rw w (rw (scan-in-run (t .Q) i (from + q) (omega arith) (omega arith)) at (fit .legal (from + q) (omega (arith, s .1, fit .rates-long)) .1));
+      }
+
+  pub square-fits : (i weight : ℕ) → 0 < i → i < t .N → weight ≡ weight-at t i →
+      CellsFit weight (t .Q + (i - 1) * (t .Q * t .Q)) (t .Q * t .Q) (t .rates) (t .distortions)
+  square-fits zero weight h g w = absurd (omega arith)
+  square-fits (suc i) weight h g w =
+      let e : suc i - 1 ≡ i = omega arith in
+      rw e (cells-fit (suc i) weight (t .Q + i * (t .Q * t .Q)) (t .Q * t .Q) g w refl (omega arith))
+
+  pub first-fits : (weight : ℕ) → weight ≡ weight-at t 0 → CellsFit weight 0 (t .Q) (t .rates) (t .distortions)
+  first-fits weight w = cells-fit 0 weight 0 (t .Q) (fit .some-scans) w refl (omega arith)
 
 module _ (t : Table) (rule : Rule) where
   -- the steps that a pass looks at, and what each costs it
@@ -111,27 +133,6 @@ module _ (t : Table) (rule : Rule) where
         is-open : (r : ℕ) → r < t .Q → steps .may i p r → x r ≡ step-cost i p r + k r
         is-open r h m = is r h
             ∙ ap (λ (y : ℕ). y + k r) (open-at i p r (m .0 .0) (m .1))
-
-    -- the cells of a scan fit: they are legal with its weight
-    cells-fit : (i weight from n : ℕ) → i < t .N → weight ≡ weight-at t i → from ≡ scan-start (t .Q) i → from + n ≡ scan-start (t .Q) (suc i) →
-        CellsFit weight from n (t .rates) (t .distortions)
-    cells-fit i weight from n h w e g =
-        let s = scan-inside (t .N) (t .Q) i h in
-        record {
-          in-rates = omega (arith, s .1, fit .rates-long);
-          in-distortions = omega (arith, s .1, fit .distortions-long);
-          legal = λ q l. rw w (rw (scan-in-run (t .Q) i (from + q) (omega arith) (omega arith)) at (fit .legal (from + q) (omega (arith, s .1, fit .rates-long)) .1));
-        }
-
-    pub square-fits : (i weight : ℕ) → 0 < i → i < t .N → weight ≡ weight-at t i →
-        CellsFit weight (t .Q + (i - 1) * (t .Q * t .Q)) (t .Q * t .Q) (t .rates) (t .distortions)
-    square-fits zero weight h g w = absurd (omega arith)
-    square-fits (suc i) weight h g w =
-        let e : suc i - 1 ≡ i = omega arith in
-        rw e (cells-fit (suc i) weight (t .Q + i * (t .Q * t .Q)) (t .Q * t .Q) g w refl (omega arith))
-
-    pub first-fits : (weight : ℕ) → weight ≡ weight-at t 0 → CellsFit weight 0 (t .Q) (t .rates) (t .distortions)
-    first-fits weight w = cells-fit 0 weight 0 (t .Q) (fit .some-scans) w refl (omega arith)
 
     -- a row of a scan's cells, as they are made, is ready for the least of its candidates
     ready : (i p : ℕ) (rs ds keys : List ℕ) → p < t .Q → ((q : ℕ) → q < t .Q → getD rs q 0 ≡ closed-at i p q) →

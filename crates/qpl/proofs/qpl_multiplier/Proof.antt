@@ -7,7 +7,7 @@ use denote.Ref.{now}
 use Rattle.criteria.specs.Choice.{Problem}
 use Rattle.tables.specs.Tables.{table, planning}
 use Rattle.tables.specs.declared.refusal.Refusal.the-variants as refusal
-use Rattle.checks.specs.Planning.{multiplier-out}
+use Rattle.checks.specs.Planning.{multiplier-out, fourth-check}
 use Rattle.checks.proofs.GiveLaws.{gives-when}
 use Rattle.promise.specs.Promise.{plan-reply, IsMultiplierPlan}
 use Rattle.qpl.proofs.CarryLaws.{Little}
@@ -42,7 +42,7 @@ tell-requires c κs =
     let start = lends .before .before .before .before .before .before .before in
     let a = start .args in (
       said .plan-answer .ensures .1,
-      planning-tellable plan-reply (called .multiplier-plan .result) 24 (now (a .answer)) (now (a .plan)) {within = problem start .allowed} {Plan = IsMultiplierPlan (problem start) (a .n) (a .d)} (lends .lent .ensures) (called .multiplier-plan .ensures)
+      planning-tellable plan-reply (called .multiplier-plan .result) 24 (now (a .answer)) (now (a .plan)) {further = fourth-check (a .n) (a .d)} {within = problem start .allowed} {Plan = IsMultiplierPlan (problem start) (a .n) (a .d)} (lends .lent .ensures) (called .multiplier-plan .ensures)
           (said .plan-answer .ensures .0) (gives-when Little (multiplier-out (a .n) (a .d)) refusal.Multiplier (omega arith)) (λ t v q. omega (arith, ap length (q .1))),
     )
 
@@ -63,7 +63,7 @@ returns c =
     let lends = called .before .before .before in
     let start = lends .before .before .before .before .before .before .before in
     let a = start .args in
-    planning-tells plan-reply (called .multiplier-plan .result) 24 (now (a .answer)) (now (a .plan)) {within = problem start .allowed} {Plan = IsMultiplierPlan (problem start) (a .n) (a .d)} (lends .lent .ensures) (called .multiplier-plan .ensures)
+    planning-tells plan-reply (called .multiplier-plan .result) 24 (now (a .answer)) (now (a .plan)) {further = fourth-check (a .n) (a .d)} {within = problem start .allowed} {Plan = IsMultiplierPlan (problem start) (a .n) (a .d)} (lends .lent .ensures) (called .multiplier-plan .ensures)
     (said .plan-answer .ensures .0) (told .tell .ensures)
 
 pub qpl-multiplier-spec : {M : Type 1} → statement M

@@ -1,7 +1,7 @@
 -- `imports::import::clear` meets its contract: zeros at the front. Assumes nothing.
 use mathlib.Core.Path.{_∙_}
 use native.Mathlib.Omega.{arith}
-use Rattle.imports.proofs.ImportLaws.{zeros-front}
+use Rattle.laws.proofs.Stores.{zeros-front}
 use borrow.Author.Needs.{needs}
 use Rattle.imports.proofs.import.clear.Statement.{statement}
 use Rattle.imports.proofs.import.clear.Tie as tie

@@ -3,7 +3,8 @@ use Rattle.criteria.specs.Choice.{Problem}
 use Rattle.tables.specs.Tables.{table, planning}
 use Rattle.checks.proofs.PlanningLaws.{sound-fit, sound-plan}
 use Rattle.seek.proofs.SeekLaws.{fit-framed}
-use Rattle.planner.proofs.PromiseLaws.{started-plan, started-refused, started-given}
+use Rattle.seek.proofs.StartLaws.{started-plan}
+use Rattle.planner.proofs.PromiseLaws.{started-refused, started-given}
 use borrow.Author.Needs.{needs}
 use Rattle.planner.proofs.average.sound_average.Statement.{statement}
 use Rattle.planner.proofs.average.sound_average.Tie as tie

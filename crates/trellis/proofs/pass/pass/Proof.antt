@@ -64,7 +64,7 @@ square-into-requires c κs =
     let l = c .before .before .before .before .before .loop in (
       (
         s .pre .0 .settings,
-        square-fits (over s) (s .args .rule) (s .pre .0) (s .pre .1) (l .i) (c .before .before .byte-to-cell .result) (c .before .before .before .before .loop-test .taken) (l .inv .0) (c .before .before .byte-to-cell .ensures .0),
+        square-fits (over s) (s .pre .0) (l .i) (c .before .before .byte-to-cell .result) (c .before .before .before .before .loop-test .taken) (l .inv .0) (c .before .before .byte-to-cell .ensures .0),
       ),
       (l .inv .1 .1 .0, l .inv .1 .1 .1 .0),
     )
@@ -121,7 +121,7 @@ byte-to-cell-requires-2 c κs = search needs
 row-into-requires : tie.Need-row-into-requires Inv-loop μ-loop
 row-into-requires c κs =
     let s = c .before .before .before .before .before .before .before .before .before .before in (
-      (s .pre .0 .settings, first-fits (over s) (s .args .rule) (s .pre .0) (s .pre .1) (c .before .before .byte-to-cell2 .result) (c .before .before .byte-to-cell2 .ensures .0)),
+      (s .pre .0 .settings, first-fits (over s) (s .pre .0) (c .before .before .byte-to-cell2 .result) (c .before .before .byte-to-cell2 .ensures .0)),
       (refl, refl),
     )
 

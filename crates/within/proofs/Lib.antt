@@ -1,0 +1,4 @@
+pub mod RowLaws
+pub mod ScanLaws
+pub mod WayLaws
+pub mod FillLaws
