@@ -15,7 +15,8 @@ pub fn least_left(cells: &[u32], row: usize, width: usize) -> usize
     requires { ⌜ (1 ≤ width) × (row + width ≤ length (now cells)) ⌝ }
     ensures { λ r. ⌜ LeastLeft row width r (now (cells .entry)) ⌝ }
 {
-    let total = cells[row + (width - 1)];
+    let last = width - 1;
+    let total = cells[row + last];
     let mut b = 0;
     while cells[row + b] != total {
         b += 1;

@@ -10,11 +10,11 @@ use Rattle.best.proofs.trace.least_left.Statement.{statement}
 use Rattle.best.proofs.trace.least_left.Tie as tie
 
 abbrev Inv-loop : tie.InvT-loop
-Inv-loop cells row width total b₀ b =
+Inv-loop cells row width last total b₀ b =
     (b < width) × ((total ≡ getD cells (row + (width - 1)) 0) × ((j : ℕ) → j < b → getD cells (row + j) 0 ≡ getD cells (row + (width - 1)) 0 → ⊥))
 
 abbrev μ-loop : tie.MeasureT-loop
-μ-loop cells row width total b₀ b = width - b
+μ-loop cells row width last total b₀ b = width - b
 
 -- a total that is not the last one's is not the last
 differs : (c : tie.Then1 Inv-loop μ-loop) →
@@ -34,8 +34,8 @@ more c =
         absurd (differs c (ap (λ (k : ℕ). getD (a .cells .now) (a .row + k) 0) e))
     by-place (no e) = omega (arith, c .before .before .loop .inv .0)
 
-sub-total : tie.Need-sub-total Inv-loop μ-loop
-sub-total c = search needs
+sub-last : tie.Need-sub-last Inv-loop μ-loop
+sub-last c = search needs
 
 add-total : tie.Need-add-total Inv-loop μ-loop
 add-total c = search needs
@@ -82,7 +82,7 @@ least-left-spec =
     (tie.spec
     Inv-loop
     μ-loop
-    sub-total
+    sub-last
     add-total
     mul-total
     shared-slice-read-total
