@@ -10,8 +10,8 @@ ghost use Rattle.best.specs.Traced.{BestGiven, BothFramed, SoughtBest};
 
 use crate::check::check;
 use crate::trace::{least_left, retrace};
-use octets::numbers::put_zeros;
 use checks::stage::Stage;
+use octets::numbers::put_zeros;
 use promise::PlanAnswer;
 use seek::finish::finish;
 use seek::start::{Started, start};

@@ -50,8 +50,8 @@ record Verdict (P : Problem) (within : List ℕ → Type 0) (k : ℕ) : Type 0 w
 verdict : {a : Asked} {Refused : Refusal → Type 0} {Passed : Type 0} {P : Problem} {within : List ℕ → Type 0} {Plan : List ℕ → List ℕ → Type 0}
     {Same Cleared : Type 0} {plan p : List ℕ} {reply : Reply} → ((r : Refusal) → Refused r → Passed → ⊥) → ((s v : List ℕ) → Plan s v → P.allowed s × within s) →
     ((t : List ℕ) → within t → P.allowed t) → Passed → PromiseOver a Refused Passed P within Plan Same Cleared plan reply p → Verdict P within reply.number
-verdict not_both is_Within allowed o (unsound {r = r} u e f g) = absurd (not_both r u o)
-verdict not_both is_Within allowed o (no_sequence o' n e f g) = rw e (record {
+verdict not_both is_within allowed o (unsound {r = r} u e f g) = absurd (not_both r u o)
+verdict not_both is_within allowed o (no_sequence o' n e f g) = rw e (record {
   given = λ z. absurd (omega arith);
   some = λ t w. absurd (n t (allowed t w));
   eight = λ z. n;
@@ -59,7 +59,7 @@ verdict not_both is_Within allowed o (no_sequence o' n e f g) = rw e (record {
   nine = λ z. absurd (omega arith);
   none_nine = λ z. absurd (n z.exist.0 z.exist.1);
 })
-verdict not_both is_Within allowed o (none_within o' n e f g) = rw e (record {
+verdict not_both is_within allowed o (none_within o' n e f g) = rw e (record {
   given = λ z. absurd (omega arith);
   some = λ t w. absurd (n.none_within t w);
   eight = λ z. absurd (omega arith);
@@ -67,13 +67,13 @@ verdict not_both is_Within allowed o (none_within o' n e f g) = rw e (record {
   nine = λ z. n;
   none_nine = λ z. refl;
 })
-verdict not_both is_Within allowed o (planned o' t v q e f g) = rw e (record {
-  given = λ z. (t, (is_Within t v q).1);
+verdict not_both is_within allowed o (planned o' t v q e f g) = rw e (record {
+  given = λ z. (t, (is_within t v q).1);
   some = λ u w. refl;
   eight = λ z. absurd (omega arith);
-  none_eight = λ z. absurd (z t (is_Within t v q).0);
+  none_eight = λ z. absurd (z t (is_within t v q).0);
   nine = λ z. absurd (omega arith);
-  none_nine = λ z. absurd (z.none_within t (is_Within t v q).1);
+  none_nine = λ z. absurd (z.none_within t (is_within t v q).1);
 })
 
 together : {P : Problem} {within : List ℕ → Type 0} {x y : Reply} → Verdict P within x.number → Verdict P within y.number → GivenTogether x y

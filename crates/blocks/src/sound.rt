@@ -9,8 +9,8 @@ ghost use Rattle.checks.specs.Stages.{ended};
 use crate::check::check_of;
 use crate::letters::version_of;
 use crate::sizes::{BLOCK, BODY, LONG_FILE, SHORT_FILE};
-use octets::numbers::four;
 use checks::stage::Stage;
+use octets::numbers::four;
 use tables::refusal::Refusal;
 
 fn neither_length(n: usize) -> bool

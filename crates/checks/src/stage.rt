@@ -5,7 +5,7 @@ ghost use Rattle.checks.specs.Stages.{ended};
 
 use tables::refusal::Refusal;
 
-#[derive(Drop)]
+#[derive(Clone, Copy)]
 pub enum Stage {
     Passed,
     Stopped(Refusal),

@@ -19,7 +19,7 @@ module _ (P : Problem) where
   ends_tie {n = n} {d = d} l = omega (arith, ap (λ (x : ℕ). d * x) l.fall, ap (λ (x : ℕ). n * x) l.rise)
 
   -- what the search ends with
-  pub slopes_end : {B n d k : ℕ} {s lo hi : List ℕ} → Slopes P B n d s lo hi k → P.allowed lo → P.rate lo ≤ B → P.allowed hi → B < P.rate hi → Ended P B n d s
+  pub slopes_end : {B n d : ℕ} {s : List ℕ} {k : ℕ} {lo hi : List ℕ} → Slopes P B n d s lo hi k → P.allowed lo → P.rate lo ≤ B → P.allowed hi → B < P.rate hi → Ended P B n d s
   slopes_end (last {lo} {hi} l e) a f a' f' = record {
     whole = omega (arith, l.rise);
     plan = l.plan;
@@ -120,7 +120,7 @@ module _ (P : Problem) where
       let e' : cost P n' d' _ ≡ cost P n' d' lo = rw (r.0, r.1, r.2) at e in
       omega arith
 
-  pub slopes_unique : {B n d k n' d' k' : ℕ} {s s' lo hi : List ℕ} → Slopes P B n d s lo hi k → Slopes P B n' d' s' lo hi k' → k ≡ k'
+  pub slopes_unique : {B n d : ℕ} {s : List ℕ} {k n' d' k' : ℕ} {s' lo hi : List ℕ} → Slopes P B n d s lo hi k → Slopes P B n' d' s' lo hi k' → k ≡ k'
   slopes_unique (last l e) (last l' e') = refl
   slopes_unique (last l e) (fitting l' c h r) = absurd (unlike l l' e c)
   slopes_unique (last l e) (over l' c h r) = absurd (unlike l l' e c)

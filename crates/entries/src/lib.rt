@@ -1,4 +1,6 @@
 // The rule of an entry, and the first entry that breaks it.
+#![tactic(auto)]
+
 ghost use Rattle.tables.specs.Limits.{most_scans};
 ghost use Rattle.tables.specs.Law.{allows};
 ghost use Rattle.blocks.specs.Sizes.{block_size, block_entries, short_file, long_file};
@@ -11,8 +13,8 @@ ghost use Rattle.checks.specs.Stages.{ended};
 
 use blocks::packed::get;
 use blocks::sizes::{BLOCK, ENTRIES};
-use octets::cast::byte_to_number;
 use checks::stage::Stage;
+use octets::cast::byte_to_number;
 use tables::law::keeps;
 use tables::refusal::Refusal;
 

@@ -10,11 +10,11 @@ ghost use Rattle.exports.specs.Export.{early_checks, cell_line, export_text, exp
 
 use crate::line::{line_length, put_line};
 use crate::place::{Place, next};
-use octets::cast::cell_to_number;
 use checks::check::{legality_stage, wrong_lengths};
 use checks::range::ranges;
 use checks::stage::{Stage, unless};
 use legal::judge_plain;
+use octets::cast::cell_to_number;
 use tables::cells::count;
 use tables::limits::{FORBIDDEN, MOST_SCANS};
 use tables::refusal::Refusal;

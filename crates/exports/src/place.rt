@@ -2,7 +2,7 @@
 ghost use Rattle.std.specs.Prelude.{◌≡◌, ◌<◌};
 ghost use Rattle.exports.specs.Export.{next_place};
 
-#[derive(Drop)]
+#[derive(Clone, Copy)]
 pub struct Place {
     pub scan: u64,
     pub previous: u64,

@@ -1,5 +1,7 @@
 // From a plan to its file: the fields of an average and of a minmax plan, with the mark of the weights that it was planned with. Every such
 // plan that is given can be written.
+#![tactic(auto)]
+
 ghost use Rattle.std.specs.Prelude.{◌≡◌};
 ghost use Rattle.filing.specs.Filing.{mark_of, average_fields, minmax_fields};
 

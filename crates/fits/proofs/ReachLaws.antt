@@ -2,15 +2,15 @@
 use mathlib.Core.Path.{◌≡◌, refl, sym, ap, ◌∙◌}
 use mathlib.Core.Logic.{◌≢◌}
 use mathlib.Core.List.{List, [], ◌∷◌, ◌++◌}
-use Prim.Native.Nat.{ℕ, zero, suc, ◌+◌, ◌*◌, ◌≤◌, ◌<◌, min}
+use Prim.Native.Nat.{ℕ, zero, suc, ◌+◌, ◌*◌, ◌≤◌, ◌<◌}
 use native.Mathlib.Decide.{dec_lt}
 use native.Mathlib.Omega.{arith}
 use lib.ListN.{length, get_or}
 use Rattle.tables.specs.Limits.{forbidden, over_total}
-use Rattle.tables.specs.Law.{Law, Follows}
-use Rattle.tables.specs.Series.{Series, Kept, total, last_of}
+use Rattle.tables.specs.Law.{Follows}
+use Rattle.tables.specs.Series.{Series, total, last_of}
 use Rattle.tables.specs.Tables.{Table, cell, scan_start, rate_at, series}
-use Rattle.tables.proofs.Beginnings.{Ended, ends, last_end, length_end, total_end, kept_end, end_kept, last_below}
+use Rattle.tables.proofs.Beginnings.{ends, last_end, length_end, total_end, kept_end, end_kept, last_below}
 use Rattle.fits.specs.Reach.{EndsIn, Reaches, Reached, comes_to, ScanTaken}
 
 -- the rows of a scan: one at scan 0, and one for each setting before a later one

@@ -13,13 +13,13 @@ use Rattle.tables.specs.declared.refusal.Refusal.TheVariants as refusal
 use Rattle.tables.specs.Refusals.{refused}
 use Rattle.tables.specs.Limits.{most_scans, most_settings, most_cell, most_total, over_total}
 use Rattle.tables.specs.Law.{law_out}
-use Rattle.tables.specs.Series.{Series, total, last_of}
-use Rattle.tables.specs.Tables.{cells, cell, scan_start, rate_at}
-use Rattle.tables.specs.Legal.{AllLegal, no_weights}
+use Rattle.tables.specs.Series.{total, last_of}
+use Rattle.tables.specs.Tables.{cells, cell, scan_start}
+use Rattle.tables.specs.Legal.{no_weights}
 use Rattle.tables.proofs.CellLaws.{cell_in_scan, scan_inside, scans_end, cells_small}
 use Rattle.tables.proofs.Bounds.{total_before, unmarked}
 use Rattle.tables.proofs.Beginnings.{last_below}
-use Rattle.legal.specs.Judged.{LegalRun, LowestInRun, RunJudged, run_legal, run_illegal}
+use Rattle.legal.specs.Judged.{LegalRun, RunJudged, run_legal, run_illegal}
 use Rattle.legal.specs.Parts.{RunWithin}
 use Rattle.legal.proofs.LegalLaws.{legal_on, all_of_run}
 use Rattle.checks.specs.Checks.{first_refusal}

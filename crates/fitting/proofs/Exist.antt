@@ -20,10 +20,9 @@ use Rattle.tables.proofs.LawLaws.{tested?}
 use Rattle.tables.proofs.Listing.{table_finite}
 use Rattle.tables.proofs.Beginnings.{way_alike}
 use Rattle.tables.proofs.CellLaws.{scans_end}
-use Rattle.legal.specs.Judged.{LegalRun, LowestInRun}
 use Rattle.legal.proofs.LegalLaws.{lowest_or_run, all_of_run}
 use Rattle.fits.specs.declared.call.FitsAnswer.TheVariants as fits_answer
-use Rattle.fits.specs.Fits.{Question, series_asked, Beginning, LegalScan, LowestOfScan, IsRead, fits_refusal, FitsPromise, early, seven, none_fits, one_fits}
+use Rattle.fits.specs.Fits.{Question, series_asked, Beginning, LegalScan, LowestOfScan, IsRead, fits_refusal, early, seven, none_fits, one_fits}
 use Rattle.fits.proofs.ReadLaws.{ready, lengths_right, scans_legal}
 use Rattle.fitting.specs.Fitting.{SomeFits}
 

@@ -1,31 +1,30 @@
 -- Where all cells are legal the answer is the full one, and so that of the planning calls with a budget; and yes stays yes when the budget
 -- grows. Assumes nothing.
-use mathlib.Core.Path.{◌≡◌, refl, sym, ap, ◌∙◌}
+use mathlib.Core.Path.{◌≡◌, refl}
 use mathlib.Core.Logic.{◌↔◌, ◌⊎◌, inl, inr}
 use mathlib.Core.Option.{none}
 use mathlib.Core.List.{List}
-use Prim.Native.Nat.{ℕ, suc, ◌*◌, ◌≤◌, ◌<◌}
+use Prim.Native.Nat.{ℕ, ◌≤◌}
 use native.Mathlib.Omega.{arith}
 use lib.ListN.{get_or}
 use Rattle.laws.proofs.Tests.{never, neither}
-use Rattle.criteria.specs.Choice.{Problem, InBudget, NoneAllowed, NoneWithin}
+use Rattle.criteria.specs.Choice.{InBudget}
 use Rattle.tables.specs.Limits.{most_scans}
 use Rattle.tables.specs.Refusals.{Reply}
-use Rattle.tables.specs.Series.{Series, Way}
-use Rattle.tables.specs.Tables.{Table, series}
-use Rattle.tables.specs.Legal.{LegalDistortion, LegalBeside, LegalCell, AllLegal, no_weights}
-use Rattle.tables.proofs.Beginnings.{AlikeBefore, way_alike}
+use Rattle.tables.specs.Series.{Series}
+use Rattle.tables.specs.Tables.{series}
+use Rattle.tables.specs.Legal.{LegalDistortion, LegalBeside, AllLegal, no_weights}
+use Rattle.tables.proofs.Beginnings.{way_alike}
 use Rattle.checks.specs.Planning.{Asked, Sound, table_of, problem_of, weigh_of, lengths_out, weights_out}
-use Rattle.checks.proofs.PlanningLaws.{FrontedBy, fronted_none, sound_front, sound_or_not}
+use Rattle.checks.proofs.PlanningLaws.{fronted_none, sound_front, sound_or_not}
 use Rattle.promise.specs.declared.AverageAnswer.{AverageAnswer}
 use Rattle.promise.specs.declared.MinmaxAnswer.{MinmaxAnswer}
 use Rattle.promise.specs.Promise.{AveragePromise, MinmaxPromise, average_reply, minmax_reply}
 use Rattle.promise.proofs.Unique.{average_within, minmax_within}
 use Rattle.promise.proofs.Verdict.{Verdict, verdict}
-use Rattle.fits.specs.Fits.{Question, table_asked, series_asked, problem_asked, fits_refusal, NoneFits, OneFits, says_yes, says_no, FitsPromise, early, seven, none_fits, one_fits}
-use Rattle.fits.proofs.ReadLaws.{ready}
+use Rattle.fits.specs.Fits.{Question, series_asked, problem_asked, fits_refusal, OneFits, says_yes, says_no, FitsPromise, early, seven, none_fits, one_fits}
 use Rattle.fitting.specs.Fitting.{with_budget, question_of, AsPlanned}
-use Rattle.fitting.proofs.Unique.{legal_scans, no_or_yes, yes_not_no, fits_unique, fits_exactly}
+use Rattle.fitting.proofs.Unique.{legal_scans, no_or_yes, fits_unique, fits_exactly}
 
 -- what a question whose cells are all legal is answered
 pub record FullAnswer (a : Question) (reply : Reply) : Type 0 where

@@ -1,23 +1,20 @@
 -- The call reads no further: other tables that agree on the scans that are read have the same answer, and the same scans are read of them.
 -- Nor does an answer depend on a distortion beside a forbidden rate. Assumes nothing.
 use mathlib.Core.Path.{◌≡◌, refl, sym, ◌∙◌}
-use mathlib.Core.Logic.{◌↔◌, ◌≢◌}
+use mathlib.Core.Logic.{◌↔◌}
 use mathlib.Core.Option.{none}
 use mathlib.Core.List.{List, []}
 use Prim.Native.Nat.{ℕ, zero, suc, ◌≤◌, ◌<◌}
 use native.Mathlib.Omega.{arith}
-use lib.ListN.{length, get_or}
-use Rattle.tables.specs.Limits.{forbidden}
+use lib.ListN.{get_or}
 use Rattle.tables.specs.Refusals.{Reply}
-use Rattle.tables.specs.Series.{Series}
-use Rattle.tables.specs.Tables.{Table, cell, cells, scan_start, rate_at}
-use Rattle.tables.specs.Legal.{LegalCell, AllLegal, no_weights, SameShown}
+use Rattle.tables.specs.Tables.{cell, scan_start, rate_at}
+use Rattle.tables.specs.Legal.{LegalCell, no_weights, SameShown}
 use Rattle.tables.proofs.CellLaws.{cell_in_scan, scans_end}
-use Rattle.tables.proofs.Beginnings.{AlikeBefore, way_alike, way_fewer}
+use Rattle.tables.proofs.Beginnings.{AlikeBefore, way_alike}
 use Rattle.tables.proofs.HiddenLaws.{legal_same, shown_sym}
-use Rattle.legal.specs.Judged.{LegalRun, LowestInRun}
 use Rattle.legal.proofs.LegalLaws.{all_of_run}
-use Rattle.fits.specs.Fits.{Question, table_asked, series_asked, Beginning, LegalScan, LowestOfScan, IsRead, fits_refusal, FitsPromise, early, seven, none_fits, one_fits, OneFits}
+use Rattle.fits.specs.Fits.{Question, table_asked, series_asked, LegalScan, LowestOfScan, IsRead, fits_refusal, FitsPromise, early, seven, none_fits, one_fits}
 use Rattle.fits.proofs.ReadLaws.{ready, lengths_right, scans_legal}
 use Rattle.fitting.specs.Fitting.{with_tables, SameWhereRead}
 use Rattle.fitting.proofs.Unique.{legal_scans, read_before, begins, fits_unique}

@@ -1,8 +1,7 @@
 -- One answer for equal inputs, and each exactly when it is so. Assumes nothing.
 use mathlib.Core.Path.{◌≡◌, refl, sym, ap, ◌∙◌}
-use mathlib.Core.Logic.{◌↔◌, ◌⊎◌, inl, inr}
-use mathlib.Core.Option.{Option, none, some}
-use mathlib.Core.List.{List, []}
+use mathlib.Core.Option.{none, some}
+use mathlib.Core.List.{List}
 use Prim.Native.Nat.{ℕ, suc, ◌≤◌, ◌<◌}
 use native.Mathlib.Decide.{dec_lt, ℕ_discrete}
 use native.Mathlib.Omega.{arith}
@@ -12,7 +11,6 @@ use Rattle.tables.specs.declared.refusal.Refusal.{Refusal}
 use Rattle.tables.specs.declared.refusal.Refusal.TheVariants as refusal
 use Rattle.tables.specs.Refusals.{Reply, refused, number_of}
 use Rattle.tables.specs.Limits.{most_scans}
-use Rattle.tables.specs.Tables.{scan_start}
 use Rattle.tables.specs.Legal.{AllLegal, no_weights}
 use Rattle.tables.proofs.CellLaws.{scan_inside}
 use Rattle.tables.proofs.RefusalLaws.{refused_unique, answered_or_refused}
@@ -21,11 +19,11 @@ use Rattle.legal.specs.Judged.{run_illegal}
 use Rattle.legal.proofs.LegalLaws.{run_unique}
 use Rattle.checks.specs.Checks.{zero_or_over}
 use Rattle.checks.specs.Planning.{settings_out, lengths_out, plain_checks}
-use Rattle.checks.proofs.GiveLaws.{Gives, given, gives_when, gives_first}
+use Rattle.checks.proofs.GiveLaws.{given, gives_when, gives_first}
 use Rattle.fits.specs.declared.call.FitsAnswer.{FitsAnswer}
 use Rattle.fits.specs.declared.call.FitsAnswer.TheVariants as fits_answer
 use Rattle.fits.specs.Fits.{Question, series_asked, Beginning, LegalScan, IsRead, fits_refusal, Seven, NoneFits, OneFits, says_yes, says_no, fits_reply, FitsPromise, early, seven, none_fits, one_fits}
-use Rattle.fits.proofs.ReadLaws.{ready, lengths_right}
+use Rattle.fits.proofs.ReadLaws.{lengths_right}
 use Rattle.fitting.specs.Fitting.{FitsExactly}
 
 -- a scan of tables that are all legal

@@ -1,4 +1,6 @@
 // The answer of an average plan: its multiplier in lowest terms, and its floor.
+#![tactic(auto)]
+
 ghost use Rattle.std.specs.Prelude.{◌≡◌, ◌+◌, ◌-◌, ◌*◌, ◌/◌, ◌≤◌, ◌<◌, ◌^◌};
 ghost use Rattle.tables.specs.Limits.{most_term, most_total};
 ghost use Rattle.floor.specs.Reduced.{Reduced};

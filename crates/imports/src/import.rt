@@ -9,9 +9,9 @@ ghost use Rattle.imports.specs.Import.{early_import, first_fault, filled, import
 
 use crate::judge::judge;
 use crate::write::write;
-use octets::numbers::put_zeros;
 use checks::range::ranges;
 use checks::stage::{Stage, unless};
+use octets::numbers::put_zeros;
 use tables::cells::count;
 use tables::limits::{FORBIDDEN, MOST_SCANS};
 use tables::refusal::Refusal;

@@ -8,10 +8,10 @@ ghost use Rattle.lines.specs.Parts.{line_said};
 ghost use Rattle.imports.specs.Import.{out_of_range, first_fault};
 ghost use Rattle.imports.specs.Parts.{Marks, KeptBehind, LineJudged};
 
-use octets::cast::{byte_to_number, cell_to_number};
 use checks::stage::Stage;
 use lines::ends::behind;
 use lines::says::{Entry, Line};
+use octets::cast::{byte_to_number, cell_to_number};
 use plain::line::line_at;
 use tables::cells::number;
 use tables::limits::MOST_CELL;

@@ -1,4 +1,6 @@
 // Import of an encoder's list into the two tables.
+#![tactic(auto)]
+
 pub mod import;
 pub mod judge;
 pub mod write;

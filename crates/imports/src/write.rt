@@ -7,9 +7,9 @@ ghost use Rattle.lines.specs.Text.{lines};
 ghost use Rattle.lines.specs.Parts.{line_said};
 ghost use Rattle.imports.specs.Import.{fault, first_fault, with_said, rate_of, distortion_of, table_from};
 
-use octets::cast::number_to_cell;
 use lines::ends::behind;
 use lines::says::Line;
+use octets::cast::number_to_cell;
 use plain::line::line_at;
 use tables::cells::number;
 

@@ -2,19 +2,19 @@
 ghost use Rattle.std.specs.Prelude.{◌≡◌, ◌+◌, ◌*◌, ◌<◌, ◌^◌};
 
 // Bits.
-#[derive(Drop)]
+#[derive(Clone, Copy)]
 pub struct Rate(pub u64);
 
 // Distortion.
-#[derive(Drop)]
+#[derive(Clone, Copy)]
 pub struct Dist(pub u64);
 
 // What the two come to together: a third kind of number, and what a pass compares.
-#[derive(Drop)]
+#[derive(Clone, Copy)]
 pub struct Amount(pub u64);
 
 // A multiplier n/d.
-#[derive(Drop)]
+#[derive(Clone, Copy)]
 pub struct Ratio {
     pub n: u64,
     pub d: u64,

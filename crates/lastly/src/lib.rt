@@ -1,4 +1,6 @@
 // Calls whose answer buffer is the last thing asked for: the room question, the export, and the question whether something fits.
+#![tactic(auto)]
+
 ghost use Rattle.std.specs.Prelude.{◌≡◌, [], ◌∷◌, ◌≤◌, length};
 ghost use Rattle.checks.specs.Checks.{or_answer};
 ghost use Rattle.exports.specs.Export.{export_text, text_after};

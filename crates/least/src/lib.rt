@@ -1,9 +1,11 @@
 // The least of a row of candidates, and the first that attains it.
+#![tactic(auto)]
+
 ghost use Rattle.std.specs.Prelude.{cond, ◌≡◌, ℕ, ◌+◌, ◌≤◌, ◌<◌, get_or, length};
 ghost use Rattle.least.specs.Row.{price_of, candidate, Ready, Joins, RunOf, BestOf, Light};
 
-use octets::cast::cell_to_number;
 use keys::cost::{Amount, Dist, Rate, cost};
+use octets::cast::cell_to_number;
 use tables::limits::FORBIDDEN;
 
 // No allowed sequence leads to the end: more than any sequence costs, and twice it still fits.
@@ -11,7 +13,7 @@ pub const NO_WAY: u64 = 4611686018427387904;
 
 // What a pass asks of a choice: the two weights of a key, of its distortion and of its rate, and a ceiling over its plain cell. The ceiling is
 // held where a scan's cells are copied, and a row of candidates knows closed cells only.
-#[derive(Drop)]
+#[derive(Clone, Copy)]
 pub struct Rule {
     pub a: u32,
     pub b: u32,
@@ -19,7 +21,7 @@ pub struct Rule {
 }
 
 // The least of some candidates, and the first of them that attains it.
-#[derive(Drop)]
+#[derive(Clone, Copy)]
 pub struct Run {
     pub key: Amount,
     pub first: usize,

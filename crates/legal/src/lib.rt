@@ -1,5 +1,7 @@
 // The legality check: one walk over both tables together, cell by cell. A cell of either table is read at most once, into a local, and judged
 // once, with the weight of its scan where it has one.
+#![tactic(auto)]
+
 ghost use Rattle.std.specs.Prelude.{◌≡◌, ◌↔◌, true, ◌+◌, ◌≤◌, ◌<◌, min, length};
 ghost use Rattle.tables.specs.Limits.{most_cell};
 ghost use Rattle.tables.specs.Legal.{LegalRate, LegalBeside, weights_by_scan, no_weights};
@@ -9,7 +11,7 @@ ghost use Rattle.legal.specs.Parts.{weight_limit, heavy_of, no_cell, RunWithin, 
 use octets::cast::byte_to_cell;
 use tables::limits::{FORBIDDEN, MOST_CELL};
 
-#[derive(Drop)]
+#[derive(Clone, Copy)]
 pub enum Legality {
     Legal,
     // The lowest illegal cell.

@@ -11,7 +11,7 @@ const QUOTE: u8 = 34;
 // "one to seven decimal digits"
 pub const MOST_DIGITS: usize = 7;
 
-#[derive(Drop)]
+#[derive(Clone, Copy)]
 pub enum Number {
     Of(u64),
     None,

@@ -9,7 +9,7 @@ use crate::ends::part_fields;
 use crate::field::{Number, inside, number_of};
 
 // A measurement: "scan, previous setting, setting, rate, distortion".
-#[derive(Drop)]
+#[derive(Clone, Copy)]
 pub struct Entry {
     pub scan: u64,
     pub previous: u64,

@@ -12,7 +12,6 @@ use lib.Seq.{get_or-set_same, get_or-set_other}
 use borrow.Author.Tests.{eq-eqb}
 use Rattle.laws.proofs.Tests.{never}
 use Rattle.tables.specs.declared.refusal.Refusal.{Refusal}
-use Rattle.tables.specs.declared.refusal.Refusal.TheVariants as refusal
 use Rattle.tables.specs.Limits.{forbidden}
 use Rattle.tables.specs.Tables.{cells}
 use Rattle.checks.proofs.CheckLaws.{none_else}

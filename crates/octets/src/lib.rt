@@ -1,4 +1,6 @@
 // Casts, numbers in bytes, low byte first, and the halves of a byte.
+#![tactic(auto)]
+
 pub mod cast;
 pub mod halves;
 pub mod numbers;

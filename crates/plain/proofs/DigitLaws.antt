@@ -9,7 +9,6 @@ use lib.ListN.{length, get_or}
 use Rattle.reading.specs.Text.{digit}
 use Rattle.reading.proofs.WordLaws.{digit_bounds}
 use Rattle.lines.proofs.ContentLaws.{DigitsSoFar, digits_start, digits_go_on, digits_end, most, most_seven}
-use Rattle.plain.specs.declared.digits.Digits.{Digits}
 use Rattle.plain.specs.Parts.{Plainly, DigitsAt}
 
 -- what is known at place i: v is the number of the digits before it, wherever they end

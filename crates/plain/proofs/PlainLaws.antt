@@ -11,7 +11,6 @@ use lib.ListN.{length, get_or, drop, get_or-eq_default}
 use lib.Seq.{slice, slice_empty}
 use borrow.Author.Tests.{ne_eqb}
 use Rattle.laws.proofs.Tests.{cases, never}
-use Rattle.reading.specs.Text.{digit}
 use Rattle.reading.proofs.WordLaws.{digit_bounds}
 use Rattle.lines.specs.Text.{line_end, fields, content, number}
 use Rattle.lines.specs.Said.{previous, says_of}

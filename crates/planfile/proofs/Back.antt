@@ -130,7 +130,7 @@ module _ {lawless : Bool} {test : ℕ → ℕ → Bool} (version : ℕ) (known :
   -- every block is sound
   kept_blocks : bad_block file ≡ none
   unfolding bad_block
-  kept_blocks = rw (blocks_back version f settings, version_back version known f settings) (none_first (suc n) (block_broken version file) 0 (λ i l g. at i (omega arith)))
+  kept_blocks = rw (version_back version known f settings, blocks_back version f settings) (none_first (suc n) (block_broken version file) 0 (λ i l g. at i (omega arith)))
     where
       e : ℕ → ℕ
       e = entry_of f.scans settings

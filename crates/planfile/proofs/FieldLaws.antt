@@ -35,11 +35,11 @@ writable lawless test f settings room e =
     let b = none_else _ _ a.1 in
     let short = none_when (write_short f.scans (length settings) room) refusal.Buffer b.0 in
     let bad : ℕ → Bool = entry_broken f.scans f.settings test (λ j. get_or settings j 0) in
-    let Found-None = none_found refusal.Entry (first_from bad 0 f.scans) (none_else (found refusal.Entry (first_from bad 0 f.scans)) none b.1).0 in
+    let found_none = none_found refusal.Entry (first_from bad 0 f.scans) (none_else (found refusal.Entry (first_from bad 0 f.scans)) none b.1).0 in
     record {
       rules = rules_hold lawless no_faults f a.0;
       enough = ltb-false (length settings) f.scans (neither _ _ short).0;
-      entries = λ j h. none_so f.scans bad 0 Found-None j (omega arith) (omega arith);
+      entries = λ j h. none_so f.scans bad 0 found_none j (omega arith) (omega arith);
     }
 
 -- entries that are the same keep the same rule

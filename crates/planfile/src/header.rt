@@ -10,9 +10,9 @@ ghost use Rattle.checks.specs.Stages.{ended};
 
 use blocks::letters::{NO_VERSION, QPL2, version_of};
 use blocks::sizes::{ENTRIES, FIRST_RUN, LAST_RUN, LONG_FILE, SHORT_FILE, SHORT_RUN};
-use octets::numbers::{eight, four, one, two};
 use checks::stage::Stage;
 use keys::cost::{Dist, Rate};
+use octets::numbers::{eight, four, one, two};
 use rules::{Faults, Fields, rules};
 
 pub fn fields(file: &[u8]) -> Fields

@@ -1,4 +1,6 @@
 // Plan files: the reader and the writer.
+#![tactic(auto)]
+
 pub mod header;
 pub mod read;
 pub mod write;

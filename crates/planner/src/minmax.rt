@@ -8,9 +8,9 @@ ghost use Rattle.seek.specs.Sought.{ThriftyTotals};
 ghost use Rattle.planner.specs.Given.{Delivered};
 ghost use Rattle.promise.specs.Promise.{MinmaxPromise, IsMinmaxPlan, minmax_reply};
 
-use octets::cast::{cell_to_number, number_to_cell};
 use checks::check::check;
 use checks::stage::Stage;
+use octets::cast::{cell_to_number, number_to_cell};
 use promise::{MinmaxAnswer, MinmaxPlan};
 use search::halving::least_ceiling;
 use seek::finish::finish;

@@ -1,49 +1,32 @@
--- A number in decimal: the digits that `io::decimal` puts are its text, and how long that is. Assumes nothing.
-use mathlib.Core.Path.{◌≡◌, refl, ap, ◌∙◌}
+-- A number in decimal: its last digit and those before it, and how long its text is. Assumes nothing.
+use mathlib.Core.Path.{◌≡◌, refl, ap}
 use mathlib.Core.Bool.{Bool, true, false, cond}
 use mathlib.Core.List.{List, [], ◌∷◌, ◌++◌}
-use Prim.Native.Nat.{ℕ, zero, suc, ◌+◌, ◌-◌, ◌/◌, ◌%◌, ◌^◌, ◌≤◌, ◌<◌}
+use Prim.Native.Nat.{ℕ, zero, suc, ◌+◌, ◌/◌, ◌%◌, ◌^◌, ◌≤◌, ◌<◌}
 use native.Mathlib.Omega.{arith}
 use lib.Dec.{ltb}
 use lib.ListN.{length, length-append}
 use borrow.Author.Tests.{lt-ltb, le-ltb}
-use Rattle.io.specs.Digits.{last_digits, hex_digit_ascii, IsDigitCount}
+use Rattle.laws.proofs.Tests.{cases}
 use Rattle.printing.specs.Lines.{decimal, decimal_in}
 
--- the sign of a digit
-glyph_digit : (d : ℕ) → d < 10 → hex_digit_ascii d ≡ 48 + d
-glyph_digit d h = rw (lt-ltb d 10 h) refl
+-- room for one more makes no other text
+more_room : (m x : ℕ) → x < 10 ^ suc m → decimal_in (suc m) x ≡ decimal_in (suc (suc m)) x
+more_room zero x h = rw (lt-ltb x 10 (omega arith)) refl
+more_room (suc m) x h =
+    cases x 10 (λ s. rw (lt-ltb x 10 s) refl)
+    (λ b. rw (le-ltb x 10 b) (ap (λ (l : List ℕ). l ++ ((48 + x % 10) ∷ [])) (more_room m (x / 10) (omega arith))))
 
--- a power of ten is not 0
-ten_pos : (j : ℕ) → 1 ≤ 10 ^ j
-ten_pos zero = omega arith
-ten_pos (suc j) = omega (arith, ten_pos j)
-
--- as few digits as hold x are its text, in room enough
-digits_in : (m k x : ℕ) → x < 10 ^ suc m → IsDigitCount 10 1 x k → last_digits 10 k x ≡ decimal_in (suc m) x
-digits_in m zero x h f = absurd (omega (arith, f.0))
-digits_in m (suc zero) x h f =
-    let small : x < 10 = omega (arith, f.1) in
-    let e : x % 10 ≡ x = omega arith in
-    ap (λ (d : ℕ). d ∷ []) (glyph_digit (x % 10) (omega arith) ∙ ap (λ (d : ℕ). 48 + d) e) ∙ rw (lt-ltb x 10 small) refl
-digits_in zero (suc (suc j)) x h f =
-    let e : suc (suc j) - 1 ≡ suc j = omega arith in
-    let big : 10 ^ suc j ≤ x = rw e at (f.2 (omega arith)) in
-    absurd (omega (arith, ten_pos j))
-digits_in (suc m) (suc (suc j)) x h f =
-    let e : suc (suc j) - 1 ≡ suc j = omega arith in
-    let e' : suc j - 1 ≡ j = omega arith in
-    let big : 10 ^ suc j ≤ x = rw e at (f.2 (omega arith)) in
-    let large : 10 ≤ x = omega (arith, ten_pos j) in
-    let few : IsDigitCount 10 1 (x / 10) (suc j) = (omega arith, omega (arith, f.1), λ g. rw e' (omega arith)) in
-    ap (λ (d : ℕ). last_digits 10 (suc j) (x / 10) ++ (d ∷ [])) (glyph_digit (x % 10) (omega arith))
-    ∙ ap (λ (l : List ℕ). l ++ ((48 + x % 10) ∷ [])) (digits_in m (suc j) (x / 10) (omega arith) few)
-    ∙ rw (le-ltb x 10 large) refl
-
--- the digits of a 64-bit number
-pub digits_decimal : (k x : ℕ) → x < 2 ^ 64 → IsDigitCount 10 1 x k → last_digits 10 k x ≡ decimal x
+-- one digit
+pub decimal_one : (x : ℕ) → x < 10 → decimal x ≡ (48 + x) ∷ []
 unfolding decimal
-digits_decimal k x h f = digits_in 19 k x (omega arith) f
+decimal_one x h = rw (lt-ltb x 10 h) refl
+
+-- .. or several: the last behind the others
+pub decimal_more : (x : ℕ) → 10 ≤ x → x < 2 ^ 64 → decimal x ≡ decimal (x / 10) ++ ((48 + x % 10) ∷ [])
+unfolding decimal
+decimal_more x h f =
+    rw (le-ltb x 10 h) (ap (λ (l : List ℕ). l ++ ((48 + x % 10) ∷ [])) (more_room 18 (x / 10) (omega arith)))
 
 -- no more digits than there is room for
 length_in : (m x : ℕ) → length (decimal_in m x) ≤ m
@@ -74,3 +57,8 @@ length_below (suc m) (suc k) x h = of (ltb x 10) (length_below m k (x / 10) (ome
 pub length_byte : (x : ℕ) → x < 256 → length (decimal x) ≤ 3
 unfolding decimal
 length_byte x h = length_below 20 2 x (omega arith)
+
+-- those before the last have one less
+pub length_tenth : (x : ℕ) → x < 2 ^ 64 → length (decimal (x / 10)) ≤ 19
+unfolding decimal
+length_tenth x h = length_below 20 18 (x / 10) (omega arith)

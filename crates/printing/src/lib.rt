@@ -1,4 +1,6 @@
 // The lines that bench writes, into a lent buffer from a place on.
+#![tactic(auto)]
+
 pub mod line;
 pub mod put;
 mod refusal;

@@ -1,5 +1,5 @@
 // Text and numbers at a place of a lent buffer. Each function answers the place after what it put.
-ghost use Rattle.std.specs.Prelude.{◌≡◌, suc, ◌+◌, ◌≤◌, length};
+ghost use Rattle.std.specs.Prelude.{◌≡◌, suc, ◌+◌, ◌≤◌, length, take, drop};
 ghost use Rattle.std.proofs.lemmas.List.Edits.{sets};
 ghost use Rattle.printing.specs.Lines.{decimal, spaced, named};
 ghost use Rattle.laws.specs.Put.{Put};
@@ -16,13 +16,28 @@ pub fn put(out: &mut [u8], at: usize, bytes: &[u8]) -> usize
     at + i
 }
 
+// The digits of a number, at the front of the text; the answer is how many there are. 20 bytes hold every number.
+fn decimal(x: u64, text: &mut [u8; 20]) -> usize
+    ensures upper_bound { result ≤ 20 }
+    ensures digits { take result text.new ≡ decimal x }
+    ensures rest { drop result text.new ≡ drop result text.old }
+{
+    if x < 10 {
+        text[0] = (48 + x) as u8;
+        return 1;
+    }
+    let last = decimal(x / 10, text);
+    text[last] = (48 + x % 10) as u8;
+    last + 1
+}
+
 // It asks for no more room than the digits take: 20 bytes hold every number, and 3 one that was a byte.
 pub fn put_number(out: &mut [u8], at: usize, x: u64) -> usize
     requires { at + length (decimal x) ≤ length out.old }
     ensures { Put out.old at (decimal x) out.new result }
 {
     let mut text = [0u8; 20];
-    let k = io::decimal(x, &mut text);
+    let k = decimal(x, &mut text);
     put(out, at, &text[..k])
 }
 

@@ -46,7 +46,7 @@ fourth_early n d = gives_when Early (multiplier_out n d) refusal.Multiplier (λ 
 -- 8 exactly when no sequence is allowed, and 9 exactly when some is and none is within, of questions that pass the checks 1 to 7
 module _ {a : Asked} {Refused : Refusal → Type 0} {Passed : Type 0} {P : Problem} {within : List ℕ → Type 0} {Plan : List ℕ → List ℕ → Type 0}
     {Same Cleared : Type 0} {plan p : List ℕ} {reply : Reply} (neither : (r : Refusal) → Refused r → Early r) (not_both : (r : Refusal) → Refused r → Passed → ⊥)
-    (is_Within : (s v : List ℕ) → Plan s v → P.allowed s × within s) (promise : PromiseOver a Refused Passed P within Plan Same Cleared plan reply p) where
+    (is_within : (s v : List ℕ) → Plan s v → P.allowed s × within s) (promise : PromiseOver a Refused Passed P within Plan Same Cleared plan reply p) where
   abbrev ThisPromise : Type 0
   ThisPromise = PromiseOver a Refused Passed P within Plan Same Cleared plan reply p
 
@@ -63,7 +63,7 @@ module _ {a : Asked} {Refused : Refusal → Type 0} {Passed : Type 0} {P : Probl
       fro (unsound {r = r} u e f g) h = absurd (not_both r u h.0)
       fro (no_sequence o n e f g) h = e
       fro (none_within o n e f g) h = absurd (h.1 n.exist.0 n.exist.1)
-      fro (planned o t v q e f g) h = absurd (h.1 t (is_Within t v q).0)
+      fro (planned o t v q e f g) h = absurd (h.1 t (is_within t v q).0)
 
   nine_exactly : (reply ≡ refused refusal.NoneWithin) ↔ (Passed × NoneWithin P within)
   nine_exactly = (to promise, fro promise)
@@ -78,7 +78,7 @@ module _ {a : Asked} {Refused : Refusal → Type 0} {Passed : Type 0} {P : Probl
       fro (unsound {r = r} u e f g) h = absurd (not_both r u h.0)
       fro (no_sequence o n e f g) h = absurd (n h.1.exist.0 h.1.exist.1)
       fro (none_within o n e f g) h = e
-      fro (planned o t v q e f g) h = absurd (h.1.none_within t (is_Within t v q).1)
+      fro (planned o t v q e f g) h = absurd (h.1.none_within t (is_within t v q).1)
 
   pub over_exactly : ExactlyOver Passed P within reply
   over_exactly = record { eight = eight_exactly; nine = nine_exactly }

@@ -27,7 +27,7 @@ use mathlib.Core.Option.{Option}
 module _ {a : Asked} {Refused : Refusal → Type 0} {Passed : Type 0} {P : Problem} {within : List ℕ → Type 0} {Plan : List ℕ → List ℕ → Type 0} {plan : List ℕ}
     (one_refusal : (r r' : Refusal) → Refused r → Refused r' → r ≡ r') (not_both : (r : Refusal) → Refused r → Passed → ⊥)
     (one_plan : (s v s' v' : List ℕ) → Plan s v → Plan s' v' → (s ≡ s') × (v ≡ v'))
-    (is_Within : (s v : List ℕ) → Plan s v → P.allowed s × within s) where
+    (is_within : (s v : List ℕ) → Plan s v → P.allowed s × within s) where
   -- of two answers: the same number, the same values and the same plan buffer, and scratch as it was after both or cleared after both
   pub over_unique : {Same Cleared Same' Cleared' : Type 0} {reply reply' : Reply} {p p' : List ℕ} →
       PromiseOver a Refused Passed P within Plan Same Cleared plan reply p → PromiseOver a Refused Passed P within Plan Same' Cleared' plan reply' p' →
@@ -39,14 +39,14 @@ module _ {a : Asked} {Refused : Refusal → Type 0} {Passed : Type 0} {P : Probl
   over_unique (no_sequence s n e f g) (unsound {r = r} u e' f' g') = absurd (not_both r u s)
   over_unique (no_sequence s n e f g) (no_sequence s' n' e' f' g') = (cc, cc, inr (g, g'))
   over_unique (no_sequence s n e f g) (none_within s' n' e' f' g') = absurd (n n'.exist.0 n'.exist.1)
-  over_unique (no_sequence s n e f g) (planned s' t v p e' f' g') = absurd (n t (is_Within t v p).0)
+  over_unique (no_sequence s n e f g) (planned s' t v p e' f' g') = absurd (n t (is_within t v p).0)
   over_unique (none_within s n e f g) (unsound {r = r} u e' f' g') = absurd (not_both r u s)
   over_unique (none_within s n e f g) (no_sequence s' n' e' f' g') = absurd (n' n.exist.0 n.exist.1)
   over_unique (none_within s n e f g) (none_within s' n' e' f' g') = (cc, cc, inr (g, g'))
-  over_unique (none_within s n e f g) (planned s' t v p e' f' g') = absurd (n.none_within t (is_Within t v p).1)
+  over_unique (none_within s n e f g) (planned s' t v p e' f' g') = absurd (n.none_within t (is_within t v p).1)
   over_unique (planned s t v p e f g) (unsound {r = r} u e' f' g') = absurd (not_both r u s)
-  over_unique (planned s t v p e f g) (no_sequence s' n' e' f' g') = absurd (n' t (is_Within t v p).0)
-  over_unique (planned s t v p e f g) (none_within s' n' e' f' g') = absurd (n'.none_within t (is_Within t v p).1)
+  over_unique (planned s t v p e f g) (no_sequence s' n' e' f' g') = absurd (n' t (is_within t v p).0)
+  over_unique (planned s t v p e f g) (none_within s' n' e' f' g') = absurd (n'.none_within t (is_within t v p).1)
   over_unique (planned s t v p e f g) (planned s' t' v' p' e' f' g') =
       let q = one_plan t v t' v' p p' in
       (e ∙ ap answered q.1 ∙ sym e', f ∙ ap (λ (x : List ℕ). handed a x plan) q.0 ∙ sym f', inr (g, g'))
@@ -59,10 +59,10 @@ one_content (inr e) = e.0 ∙ sym e.1
 -- .. of the four calls
 module _ {further : Option Refusal} {a : Asked} {within : List ℕ → Type 0} {Plan : List ℕ → List ℕ → Type 0} {plan scratch : List ℕ}
     (one_plan : (s v s' v' : List ℕ) → Plan s v → Plan s' v' → (s ≡ s') × (v ≡ v'))
-    (is_Within : (s v : List ℕ) → Plan s v → (problem_of a).allowed s × within s) where
+    (is_within : (s v : List ℕ) → Plan s v → (problem_of a).allowed s × within s) where
   pub promise_unique : {reply reply' : Reply} {p p' s s' : List ℕ} → Promise further a within Plan plan scratch reply p s →
       Promise further a within Plan plan scratch reply' p' s' → (reply ≡ reply') × (p ≡ p') × (s ≡ s')
-  promise_unique h h' = let u = over_unique (λ r r'. unsound_unique) (λ r. sound_or_not) one_plan is_Within h h' in (u.0, u.1, one_content u.2)
+  promise_unique h h' = let u = over_unique (λ r r'. unsound_unique) (λ r. sound_or_not) one_plan is_within h h' in (u.0, u.1, one_content u.2)
 
 -- Each call's plan is one, and within its limit.
 module _ (P : Problem) where

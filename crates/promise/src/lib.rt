@@ -1,4 +1,6 @@
 // What a planning call answers.
+#![tactic(auto)]
+
 use keys::cost::Dist;
 use tables::refusal::Refusal;
 use walk::Totals;

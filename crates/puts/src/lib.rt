@@ -1,4 +1,6 @@
 // A plan file as it is written, in QPL2: block 0, then the data blocks.
+#![tactic(auto)]
+
 ghost use Rattle.blocks.specs.BlockCheck.{check_of};
 ghost use Rattle.blocks.specs.Sizes.{block_size, body_size, block_entries, block_pairs};
 ghost use Rattle.std.specs.Prelude.{◌≡◌, ℕ, suc, ◌+◌, ◌*◌, ◌≤◌, ◌<◌, length, get_or};

@@ -8,7 +8,7 @@ use Prim.Native.Nat.{ℕ, ◌+◌, ◌*◌, ◌/◌, ◌%◌, ◌≤◌, ◌<◌
 use native.Mathlib.Omega.{arith}
 use lib.Dec.{ltb}
 use lib.ListN.{length}
-use borrow.Author.Tests.{lt-ltb}
+use borrow.Author.Tests.{lt-ltb, ne_eqb}
 use Rattle.tables.specs.declared.refusal.Refusal.{Refusal}
 use Rattle.tables.specs.declared.refusal.Refusal.TheVariants as refusal
 use Rattle.tables.specs.Limits.{most_scans, most_short_scans}
@@ -27,6 +27,11 @@ use Rattle.rules.proofs.FieldLaws.{rules_hold}
 use Rattle.promise.specs.Promise.{CeilingPromise, MultiplierPromise, MinmaxPromise, AveragePromise, plan_reply, minmax_reply, average_reply}
 use Rattle.promise.proofs.Unique.{ceiling_settled, multiplier_settled, minmax_settled, average_settled}
 use Rattle.best.specs.Best.{choices_need, totals_need, budget_check, best_short, BestPromise}
+use Rattle.fits.specs.declared.call.FitsAnswer.{FitsAnswer}
+use Rattle.fits.specs.declared.call.FitsAnswer.TheVariants as fits_answer
+use Rattle.fits.specs.Fits.{question, FitsPromise, fits_reply}
+use Rattle.fitting.proofs.Unique.{fits_settled}
+use Rattle.lastly.specs.Lastly.{asked_last, fits_told}
 use Rattle.between.proofs.Unique.{best_settled}
 use Rattle.telling.specs.Told.{word_of, Told, lent}
 use Rattle.qpl.specs.Surface.{Tells, read_bytes}
@@ -89,6 +94,26 @@ best_tells_once N Q law B rates distortions weights plan choices cells answer x 
     let u = best_settled {a = asked_of 24 N Q law rates distortions weights plan choices answer} x.given y.given x.kept y.kept in
     let w = told_once answer (ap plan_reply u.0) x.told y.told in
     ((w.0, w.1, u.1, u.2), u.3)
+
+-- .. and the question whether something fits, which is lent nothing but the answer buffer
+pub fits_tells_once : (N Q law B : ℕ) (rates distortions answer : List ℕ) {word word' : ℕ} {t t' : List ℕ} →
+    Tells (fits_told (length answer)) (λ r. FitsPromise (question N Q law B rates distortions) (fits_reply r)) answer word t →
+    Tells (fits_told (length answer)) (λ r. FitsPromise (question N Q law B rates distortions) (fits_reply r)) answer word' t' → (word ≡ word') × (t ≡ t')
+fits_tells_once N Q law B rates distortions answer x y =
+    let u = fits_settled {a = question N Q law B rates distortions} x.given y.given x.kept y.kept in
+    told_once answer (ap (fits_told (length answer)) u) x.told y.told
+
+-- An answer buffer that is too short for it: 6 in the place of yes and of no alike, and every refusal as it is.
+abbrev pub short_fits : FitsAnswer → Reply
+short_fits fits_answer.Yes = refused refusal.Buffer
+short_fits fits_answer.No = refused refusal.Buffer
+short_fits (fits_answer.Refused r) = refused r
+
+pub short_answer_fits : (answer : ℕ) (r : FitsAnswer) → ltb answer 8 ≡ true → fits_told answer r ≡ short_fits r
+unfolding asked_last
+short_answer_fits answer fits_answer.Yes e = rw e refl
+short_answer_fits answer fits_answer.No e = rw e refl
+short_answer_fits answer (fits_answer.Refused r) e = rw (ne_eqb (number_of r) 0 (never_zero r)) refl
 
 -- what follows a stage matters only where it passes
 after_stage : (o x y : Option Refusal) → (o ≡ none → x ≡ y) → or_else o x ≡ or_else o y

@@ -1,6 +1,8 @@
 // The C surface (include/qpl.h): the room question, import and export of lists, the reader and the writer of plan files, the four planning
 // calls, and the true best of a short series. Each function is one call of the layer below. It gives back 0, or a refusal's number with what it
 // carries in the high 32 bits; what it answers goes to a lent buffer.
+#![tactic(auto)]
+
 ghost use Rattle.std.specs.Prelude.{◌≡◌, ◌≤◌, [], ◌∷◌, length};
 ghost use Rattle.checks.specs.Planning.{asking};
 ghost use Rattle.promise.specs.Promise.{CeilingPromise, MultiplierPromise, MinmaxPromise, AveragePromise, plan_reply, minmax_reply, average_reply};
@@ -10,6 +12,8 @@ ghost use Rattle.checks.specs.Checks.{or_answer};
 ghost use Rattle.imports.specs.Import.{import_of};
 ghost use Rattle.exports.specs.Export.{export_text, text_after};
 ghost use Rattle.planfile.specs.Writing.{write_of, write_refusal, file_after};
+ghost use Rattle.fits.specs.Fits.{question, FitsPromise, fits_reply};
+ghost use Rattle.lastly.specs.Lastly.{fits_told};
 ghost use Rattle.telling.specs.Told.{Told, word_of, lent as Lent};
 ghost use Rattle.telling.specs.Parts.{most_values, answer_reply};
 ghost use Rattle.qpl.specs.Surface.{Tells, read_bytes, room_told, export_told, fields_told};
@@ -19,6 +23,7 @@ use checks::stage::{Stage, then};
 use exports::export::export;
 use imports::import::import;
 use keys::cost::{Dist, Rate};
+use lastly::fits_told;
 use planfile::read::read_plan;
 use planfile::write::{WriteAnswer, write_plan};
 use planner::average::average_plan;
@@ -334,4 +339,29 @@ pub extern "C" fn qpl_best(
         totals,
     );
     tell(plan_answer(told), answer)
+}
+
+// 1 for yes, 0 for no
+#[unsafe(no_mangle)]
+pub extern "C" fn qpl_fits(
+    scans: u64,
+    settings: u64,
+    law: u64,
+    budget: u64,
+    rates: &[u32],
+    distortions: &[u32],
+    answer: &mut [u8],
+) -> u64
+    ensures { Tells (fits_told (length answer.old)) (λ a. FitsPromise (question scans settings law budget rates.now distortions.now) (fits_reply a)) answer.old result answer.new }
+{
+    let told = fits_told(
+        scans,
+        settings,
+        law,
+        budget,
+        rates,
+        distortions,
+        answer.len(),
+    );
+    tell(told, answer)
 }

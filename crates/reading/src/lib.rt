@@ -1,5 +1,7 @@
 // The numbers of a text that arrives in pieces. They are judged and taken as they come, so a text may be of any length: what is kept is the
 // word that stands open, how many numbers have been taken, and whether a word stands after them that was not.
+#![tactic(auto)]
+
 ghost use Rattle.std.specs.Prelude.{◌≡◌, true, [], ◌∷◌, ◌+◌, ◌*◌, ◌-◌, ◌<◌, suc, min, length};
 ghost use Rattle.reading.specs.Text.{separator, digit, most_number};
 ghost use Rattle.reading.specs.Fed.{Starts, Feeds};
@@ -11,14 +13,14 @@ const MOST: u64 = 4294967295;
 const OVER: u64 = 4294967296;
 
 // The word that stands open: none, digits alone with their value (cut off just past the limit), or one with another byte in it.
-#[derive(Drop)]
+#[derive(Clone, Copy)]
 pub enum Word {
     Between,
     Digits(u64),
     Other,
 }
 
-#[derive(Drop)]
+#[derive(Clone, Copy)]
 pub struct State {
     pub word: Word,
     // how many numbers have been taken

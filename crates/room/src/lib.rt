@@ -1,4 +1,6 @@
 // The room question.
+#![tactic(auto)]
+
 ghost use Rattle.std.specs.Prelude.{◌≡◌, ◌*◌, ◌≤◌, ◌<◌, ◌^◌};
 ghost use Rattle.tables.specs.Limits.{most_channels};
 ghost use Rattle.room.specs.Room.{room_of, room_reply};

@@ -5,7 +5,6 @@ use mathlib.Core.Option.{none}
 use Prim.Native.Nat.{ℕ, ◌≤◌}
 use native.Mathlib.Omega.{arith}
 use lib.Dec.{eqb, ltb}
-use lib.ListN.{length}
 use borrow.Author.Tests.{eqb-true, ltb-false, not-false}
 use Rattle.criteria.specs.Fraction.{gcd}
 use Rattle.tables.specs.Limits.{most_scans, most_settings, most_term, most_total, most_cell}

@@ -1,4 +1,6 @@
 // What a plan file says of its plan beside the settings, and the rules of these fields, each charged to its byte.
+#![tactic(auto)]
+
 ghost use Rattle.std.specs.Prelude.{◌≡◌, ◌||◌};
 ghost use Rattle.tables.specs.Law.{law_out};
 ghost use Rattle.checks.specs.Checks.{first_refusal};
@@ -6,16 +8,16 @@ ghost use Rattle.rules.specs.Rules.{header_rules, neither_of_two, n_broken, d_br
 ghost use Rattle.rules.specs.Rules.{rate_broken, peak_broken, floor_broken};
 ghost use Rattle.checks.specs.Stages.{ended};
 
-use octets::cast::cell_to_number;
 use checks::range::outside;
 use checks::stage::{Stage, then, unless};
 use keys::cost::{Dist, Rate};
+use octets::cast::cell_to_number;
 use tables::common::common;
 use tables::law::no_law;
 use tables::limits::{MOST_CELL, MOST_SCANS, MOST_SETTINGS, MOST_TERM, MOST_TOTAL};
 use tables::refusal::Refusal;
 
-#[derive(Drop)]
+#[derive(Clone, Copy)]
 pub struct Fields {
     pub scans: u64,
     pub settings: u64,

@@ -9,7 +9,7 @@ use seek::passes::multiplier_pass;
 use walk::{Totals, total_up};
 
 // The last plan that fits, and the last that does not.
-#[derive(Drop)]
+#[derive(Clone, Copy)]
 pub struct Bracket {
     pub lo: Totals,
     pub hi: Totals,

@@ -1,4 +1,6 @@
 // Document 01's tables: cells, laws, the refusals, the common divisor.
+#![tactic(auto)]
+
 pub mod cells;
 pub mod common;
 pub mod law;

@@ -1,4 +1,6 @@
 // What goes back to a host: a number, and the values of an answer in the buffer that it lent, eight bytes each.
+#![tactic(auto)]
+
 ghost use Rattle.std.specs.Prelude.{◌≡◌, ◌*◌, ◌≤◌, ◌<◌, ◌^◌, length, take};
 ghost use Rattle.std.proofs.lemmas.List.Edits.{sets};
 ghost use Rattle.tables.specs.Refusals.{refused, answered, carried_by};
@@ -10,10 +12,10 @@ ghost use Rattle.fits.specs.Fits.{fits_reply};
 ghost use Rattle.telling.specs.Told.{eights, Told, word_of, lent as Lent};
 ghost use Rattle.telling.specs.Parts.{most_values, Tellable, answer_reply};
 
-use octets::numbers::put_eight;
 use checks::stage::Stage;
 use exports::export::ExportAnswer;
 use fits::call::FitsAnswer;
+use octets::numbers::put_eight;
 use planfile::read::ReadAnswer;
 use promise::{AverageAnswer, MinmaxAnswer, PlanAnswer};
 use room::RoomAnswer;

@@ -10,8 +10,8 @@ ghost use Rattle.trellis.specs.Pass.{PassOf, pass_problem};
 
 use crate::choices::store;
 use crate::square::{row_into, square_into};
-use octets::cast::byte_to_cell;
 use least::{NO_WAY, Rule, pick};
+use octets::cast::byte_to_cell;
 use tables::law::run;
 
 // One scan, from its squares, which are closed and weighed: what lies ahead of each setting before it, and the choices.

@@ -1,4 +1,6 @@
 // Along the choices: what the sequence comes to, its settings handed over, and scratch wiped.
+#![tactic(auto)]
+
 ghost use Rattle.std.specs.Prelude.{◌≡◌, ◌++◌, ℕ, ◌+◌, ◌*◌, ◌≤◌, ◌<◌, ◌^◌, max, get_or, length, drop, replicate};
 ghost use Rattle.tables.specs.Limits.{most_scans, most_settings};
 ghost use Rattle.tables.specs.Tables.{table, planning, scratch_need};
@@ -6,13 +8,13 @@ ghost use Rattle.trellis.specs.Choices.{chosen};
 ghost use Rattle.checks.specs.Fit.{Fit};
 ghost use Rattle.walk.specs.Walked.{TotalsOf};
 
-use octets::cast::{byte_to_number, cell_to_number};
 use keys::cost::{Dist, Rate};
+use octets::cast::{byte_to_number, cell_to_number};
 use tables::cells::{number, scratch_need};
 use trellis::choices::read;
 
 // What a sequence comes to.
-#[derive(Drop)]
+#[derive(Clone, Copy)]
 pub struct Totals {
     pub rate: Rate,
     pub distortion: Dist,

@@ -19,7 +19,7 @@ use Rattle.tables.specs.Law.{law_out}
 use Rattle.laws.proofs.Tests.{never}
 use Rattle.reading.specs.Fed.{as_words, taken_of}
 use Rattle.reading.specs.declared.State.{State}
-use Rattle.workbench.specs.Request.{Request, bad_input, out_of_range, too_large, to_plan, request, most_cells, in_range}
+use Rattle.workbench.specs.Request.{Request, bad_input, out_of_range, too_large, to_plan, request, most_cells}
 use Rattle.workbench.specs.Done.{settles}
 use Rattle.workbench.specs.Parts.{Planable, Heads, Requests, plan_requested, scans, settings, law, budget, rates, distortions, out_by}
 use Rattle.workbench.specs.declared.judge.Head.{Head}

@@ -34,13 +34,13 @@ front_ones (suc n) zero h = never (omega arith)
 front_ones (suc n) (suc m) h = ap (λ (l : List ℕ). 1 ∷ l) (front_ones n m (omega arith))
 
 -- the line of the answer that a call gave
-pub given_line : {Answer : Type 0} (promise : PromiseOf Answer) (Line-of : Answer → List ℕ → List ℕ) {N Q l B : ℕ}
+pub given_line : {Answer : Type 0} (promise : PromiseOf Answer) (line_of : Answer → List ℕ → List ℕ) {N Q l B : ℕ}
     {rs ds before after plan scratch : List ℕ} {at r : ℕ} → N ≤ 1024 → (answer : Answer) →
     promise (asking N Q l rs ds (take N (replicate 1024 1)) 1024 4096) B (replicate 1024 0) (replicate 4096 0) answer plan scratch →
-    Put before at (Line-of answer (take N plan)) after r → r ≤ at + (256 + 4 * length (take N plan)) →
-    RightLine (PlannedLine promise Line-of N Q l B rs ds) before at after r
-given_line promise Line-of {N = N} {plan = plan} {scratch = scratch} small answer p u h = record {
-  line = Line-of answer (take N plan);
+    Put before at (line_of answer (take N plan)) after r → r ≤ at + (256 + 4 * length (take N plan)) →
+    RightLine (PlannedLine promise line_of N Q l B rs ds) before at after r
+given_line promise line_of {N = N} {plan = plan} {scratch = scratch} small answer p u h = record {
+  line = line_of answer (take N plan);
   right = record { given = answer; plan = plan; scratch = scratch; kept = rw (front_ones N 1024 small) at p; written = refl };
   put = u;
   short = omega (arith, few_bytes N plan small);

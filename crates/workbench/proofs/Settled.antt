@@ -7,9 +7,9 @@ use Rattle.workbench.specs.Request.{Request}
 use Rattle.workbench.specs.Written.{PromiseOf, PlannedLine, WrittenFor, Writes, alone_bad, alone_large, both_refused, both_planned}
 
 -- one answer and one plan, one line
-line_unique : {Answer : Type 0} {promise : PromiseOf Answer} {Line-of : Answer → List ℕ → List ℕ} {N Q law B : ℕ}
+line_unique : {Answer : Type 0} {promise : PromiseOf Answer} {line_of : Answer → List ℕ → List ℕ} {N Q law B : ℕ}
     {rates distortions line line' : List ℕ}
-    (a : PlannedLine promise Line-of N Q law B rates distortions line) (b : PlannedLine promise Line-of N Q law B rates distortions line') →
+    (a : PlannedLine promise line_of N Q law B rates distortions line) (b : PlannedLine promise line_of N Q law B rates distortions line') →
     (a.given ≡ b.given) × (a.plan ≡ b.plan) × (a.scratch ≡ b.scratch) → line ≡ line'
 line_unique a b u = a.written ∙ rw (u.0, u.1) (sym b.written)
 

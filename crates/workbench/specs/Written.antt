@@ -13,13 +13,13 @@ PromiseOf Answer = Asked → ℕ → (plan scratch : List ℕ) → Answer → (p
 
 -- the line of a table that is planned: that of some answer of the call, with buffers of zeros, large enough for every table that bench plans;
 -- bench has no weights: all are 1
-pub record PlannedLine {Answer : Type 0} (promise : PromiseOf Answer) (Line-of : Answer → List ℕ → List ℕ) (N Q law B : ℕ)
+pub record PlannedLine {Answer : Type 0} (promise : PromiseOf Answer) (line_of : Answer → List ℕ → List ℕ) (N Q law B : ℕ)
     (rates distortions line : List ℕ) : Type 0 where
   pub given : Answer
   pub plan : List ℕ
   pub scratch : List ℕ
   pub kept : promise (asking N Q law rates distortions (replicate N 1) 1024 4096) B (replicate 1024 0) (replicate 4096 0) given plan scratch
-  pub written : line ≡ Line-of given (take N plan)
+  pub written : line ≡ line_of given (take N plan)
 
 -- the first line, of the average call
 abbrev pub AveLine : (N Q law B : ℕ) (rates distortions line : List ℕ) → Type 0

@@ -2,9 +2,9 @@
 ghost use Rattle.std.specs.Prelude.{◌≡◌, not, ◌&&◌, ◌+◌, ◌*◌, ◌≤◌, ◌<◌, eqb, length};
 ghost use Rattle.workbench.specs.Parts.{Heads, VerdictOf};
 
-use octets::cast::cell_to_number;
 use checks::range::ranges;
 use checks::stage::Stage;
+use octets::cast::cell_to_number;
 use reading::State;
 use tables::cells::count;
 use tables::law::no_law;

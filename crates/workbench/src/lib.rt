@@ -1,4 +1,6 @@
 // What bench does with the numbers of a text: whether it has read enough, and what it writes.
+#![tactic(auto)]
+
 mod judge;
 mod lines;
 

@@ -1,0 +1,13 @@
+-- `rules::d_wrong` meets its contract.
+use borrow.Author.Tests.{ne_eqb}
+use mathlib.Core.Path.{refl}
+use Rattle.rules.specs.Rules.{d_broken}
+use Rattle.rules.proofs.d_wrong.Goals as goal
+
+pub returns-then-kind-ne0 : goal.returns-then-kind-ne0
+unfolding d_broken
+returns-then-kind-ne0 c = rw (ne_eqb _ 0 c.if-kind-ne0.true) refl
+
+pub returns : goal.returns
+unfolding d_broken
+returns c = rw c.if-kind-ne0.false c.outside.ensures

@@ -1,0 +1,10 @@
+-- `search::slopes::narrowed` meets its contract.
+use mathlib.Core.Path.{refl}
+use mathlib.Core.Logic.{inl, inr}
+use Rattle.search.proofs.slopes.narrowed.Goals as goal
+
+pub returns-then-plan-budget : goal.returns-then-plan-budget
+returns-then-plan-budget c = inl (c.if-plan-budget.true, (refl, refl))
+
+pub returns : goal.returns
+returns c = inr (c.if-plan-budget.false, (refl, refl))
