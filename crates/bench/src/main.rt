@@ -1,35 +1,42 @@
 // bench: plans the tables of one text on standard input, and writes the lines for it.
-ghost use Rattle.std.specs.Prelude.{◌≤◌, length};
+#![tactic(auto)]
+
+ghost use Rattle.std.specs.Prelude.{◌≤◌, IfOk, OnErr, length};
+ghost use Rattle.reading.specs.declared.State.{State};
 ghost use Rattle.bench.specs.Got.{Got};
 
-use libc::{STDIN_FILENO, STDOUT_FILENO};
 use reading::State;
+use std::io;
+use std::io::{Read, Write};
 
-// Reads until that is enough, or the input ends; a read that fails ends it too. A proved loop has to end,
-// and nothing says that the input does. So it counts down from a number that no run uses up.
-fn read_text(numbers: &mut [u32]) -> State
+// Reads until that is enough, or the input ends; where a read fails, its error is what comes back, and the numbers are those so far.
+// A proved loop has to end, and nothing says that the input does. So it counts down from a number that no run uses up.
+fn read_text<R: Read>(input: &mut R, numbers: &mut [u32]) -> io::Result<State>
     requires { 8196 ≤ length numbers.old }
-    ensures { Got numbers.new result }
+    ensures read { IfOk result (λ s. Got numbers.new s) }
+    ensures so_far { OnErr result ((s : State) × Got numbers.new s) }
 {
-    let mut piece = io::buffer();
+    let mut piece = [0u8; 4096];
     let mut s = reading::fresh();
     let mut turns = u64::MAX;
     while turns > 0 && !workbench::enough(s, numbers) {
-        let got = io::count(libc::read(STDIN_FILENO, &mut piece), &piece);
+        let got = input.read(&mut piece)?;
         if got == 0 {
-            return s;
+            return Ok(s);
         }
         s = reading::feed(s, &piece[..got], numbers);
         turns -= 1;
     }
-    s
+    Ok(s)
 }
 
 // Room for the numbers of the largest text that is planned, and for the longest two lines.
-fn main() {
+fn main(rt: HostRuntime) -> io::Result<()> {
+    let mut input = rt.stdin();
+    let mut output = rt.stdout();
     let mut numbers = [0u32; 8196];
     let mut out = [0u8; 8704];
-    let s = read_text(&mut numbers);
+    let s = read_text(&mut input, &mut numbers)?;
     let n = workbench::answer(s, &mut numbers, &mut out);
-    io::write_all(STDOUT_FILENO, &out[..n]);
+    output.write_all(&out[..n])
 }

@@ -1,13 +1,14 @@
 // Groups of calls: the tables and the weights are made once, and each call gets them with its three buffers filled anew.
 use crate::show::put_planned;
 use best::plan::best_plan;
-use libc::STDOUT_FILENO;
 use shown::buffer::{fill, put_buffer};
 use shown::coded::made;
 use shown::input::{least, word};
 use shown::number::end_line;
 use shown::table::{fill_table, put_whole};
 use shown::weights::{cells_source, count_weights, made_weights};
+use std::io;
+use std::io::{Read, Write};
 
 // Where the patterns of the two byte buffers before a call start, and the cells of the totals.
 const PLAN_FROM: usize = 13;
@@ -17,7 +18,7 @@ const CHOICES_FROM: usize = 100;
 const TOTALS_FROM: u32 = 2000000000;
 
 // The numbers that every call of a group takes.
-#[derive(Drop)]
+#[derive(Clone, Copy)]
 struct Case {
     scans: u64,
     settings: u64,
@@ -25,23 +26,25 @@ struct Case {
 }
 
 // A buffer as the call left it.
-fn put_plan(plan: &[u8]) {
-    io::write_all(STDOUT_FILENO, b"p");
-    put_buffer(plan, PLAN_FROM);
+fn put_plan<W: Write>(out: &mut W, plan: &[u8]) -> io::Result<()> {
+    out.write_all(b"p")?;
+    put_buffer(out, plan, PLAN_FROM)
 }
 
-fn put_choices(choices: &[u8]) {
-    io::write_all(STDOUT_FILENO, b"s");
-    put_buffer(choices, CHOICES_FROM);
+fn put_choices<W: Write>(out: &mut W, choices: &[u8]) -> io::Result<()> {
+    out.write_all(b"s")?;
+    put_buffer(out, choices, CHOICES_FROM)
 }
 
-fn put_cells(totals: &[u32]) {
-    io::write_all(STDOUT_FILENO, b"t");
-    put_whole(totals, TOTALS_FROM);
+fn put_cells<W: Write>(out: &mut W, totals: &[u32]) -> io::Result<()> {
+    out.write_all(b"t")?;
+    put_whole(out, totals, TOTALS_FROM)
 }
 
 // One call.
-fn one(
+fn one<R: Read, W: Write>(
+    input: &mut R,
+    out: &mut W,
     case: Case,
     rates: &[u32],
     distortions: &[u32],
@@ -49,30 +52,35 @@ fn one(
     plan: &mut [u8],
     choices: &mut [u8],
     totals: &mut [u32],
-) {
-    let budget = word();
+) -> io::Result<()> {
+    let budget = word(input)?;
     fill(plan, PLAN_FROM);
     fill(choices, CHOICES_FROM);
     fill_table(totals, TOTALS_FROM);
-    put_planned(best_plan(
-        case.scans,
-        case.settings,
-        case.law,
-        budget,
-        rates,
-        distortions,
-        weights,
-        plan,
-        choices,
-        totals,
-    ));
-    put_plan(plan);
-    put_choices(choices);
-    put_cells(totals);
-    end_line();
+    put_planned(
+        out,
+        best_plan(
+            case.scans,
+            case.settings,
+            case.law,
+            budget,
+            rates,
+            distortions,
+            weights,
+            plan,
+            choices,
+            totals,
+        ),
+    )?;
+    put_plan(out, plan)?;
+    put_choices(out, choices)?;
+    put_cells(out, totals)?;
+    end_line(out)
 }
 
-fn calls(
+fn calls<R: Read, W: Write>(
+    input: &mut R,
+    out: &mut W,
     case: Case,
     count: u64,
     rates: &[u32],
@@ -81,44 +89,59 @@ fn calls(
     plan: &mut [u8],
     choices: &mut [u8],
     totals: &mut [u32],
-) {
+) -> io::Result<()> {
     let mut left = count;
     while 0 < left {
-        one(case, rates, distortions, weights, plan, choices, totals);
+        one(
+            input,
+            out,
+            case,
+            rates,
+            distortions,
+            weights,
+            plan,
+            choices,
+            totals,
+        )?;
         left -= 1;
     }
+    Ok(())
 }
 
 // One group; false where the input ends.
-fn group(
+fn group<R: Read, W: Write>(
+    input: &mut R,
+    out: &mut W,
     rates: &mut [u32],
     distortions: &mut [u32],
     weights: &mut [u8],
     plan: &mut [u8],
     choices: &mut [u8],
     totals: &mut [u32],
-) -> bool {
-    let source = word();
+) -> io::Result<bool> {
+    let source = word(input)?;
     if source == 0 {
-        return false;
+        return Ok(false);
     }
     let case = Case {
-        scans: word(),
-        settings: word(),
-        law: word(),
+        scans: word(input)?,
+        settings: word(input)?,
+        law: word(input)?,
     };
-    let r = least(word(), rates.len());
-    let d = least(word(), distortions.len());
-    let p = least(word(), plan.len());
-    let s = least(word(), choices.len());
-    let t = least(word(), totals.len());
-    let count = word();
-    let w = count_weights(source, case.scans, weights.len());
+    let r = least(word(input)?, rates.len());
+    let d = least(word(input)?, distortions.len());
+    let p = least(word(input)?, plan.len());
+    let s = least(word(input)?, choices.len());
+    let t = least(word(input)?, totals.len());
+    let count = word(input)?;
+    let w = count_weights(input, source, case.scans, weights.len())?;
     let cells = cells_source(source);
-    made(cells, &mut rates[..r]);
-    made(cells, &mut distortions[..d]);
-    made_weights(source, &mut weights[..w]);
+    made(input, cells, &mut rates[..r])?;
+    made(input, cells, &mut distortions[..d])?;
+    made_weights(input, source, &mut weights[..w])?;
     calls(
+        input,
+        out,
         case,
         count,
         &rates[..r],
@@ -127,21 +150,35 @@ fn group(
         &mut plan[..p],
         &mut choices[..s],
         &mut totals[..t],
-    );
-    true
+    )?;
+    Ok(true)
 }
 
 // A proved loop has to end, and nothing says that the input does. So it counts down from a number that no run uses up.
-pub fn every_group(
+pub fn every_group<R: Read, W: Write>(
+    input: &mut R,
+    out: &mut W,
     rates: &mut [u32],
     distortions: &mut [u32],
     weights: &mut [u8],
     plan: &mut [u8],
     choices: &mut [u8],
     totals: &mut [u32],
-) {
+) -> io::Result<()> {
     let mut turns = u64::MAX;
-    while turns > 0 && group(rates, distortions, weights, plan, choices, totals) {
+    while turns > 0
+        && group(
+            input,
+            out,
+            rates,
+            distortions,
+            weights,
+            plan,
+            choices,
+            totals,
+        )?
+    {
         turns -= 1;
     }
+    Ok(())
 }

@@ -7,11 +7,17 @@
 //   of a group with weights, how many are lent;
 //   the cells, and of a group with weights these, as plan_cases has them;
 //   the calls, a number each: the budget.
+#![tactic(auto)]
+
 mod lend;
 mod show;
 
+use std::io;
+
 // The tables and the weights as plan_cases has them; the plan, the choices and the totals of all cases, and some room past that.
-fn main() {
+fn main(rt: HostRuntime) -> io::Result<()> {
+    let mut input = rt.stdin();
+    let mut out = rt.stdout();
     let mut rates = [0u32; 262144];
     let mut distortions = [0u32; 262144];
     let mut weights = [0u8; 2048];
@@ -19,11 +25,13 @@ fn main() {
     let mut choices = [0u8; 1049600];
     let mut totals = [0u32; 262400];
     lend::every_group(
+        &mut input,
+        &mut out,
         &mut rates,
         &mut distortions,
         &mut weights,
         &mut plan,
         &mut choices,
         &mut totals,
-    );
+    )
 }

@@ -5,35 +5,41 @@ use crate::change::{fields, runs};
 use crate::feed::place;
 use crate::show::{put_read, put_written};
 use keys::cost::{Dist, Rate};
-use libc::STDOUT_FILENO;
 use planfile::read::read_plan;
 use planfile::write::write_plan;
 use rules::Fields;
 use shown::buffer::{fill, put_buffer};
 use shown::input::byte;
 use shown::number::end_line;
+use std::io;
+use std::io::{Read, Write};
 
 // Where the pattern of a buffer before a call starts.
 const FROM: usize = 13;
 
 // The buffer as the call left it, and the end of the line.
-fn put_lent(lent: &[u8]) {
-    io::write_all(STDOUT_FILENO, b"b");
-    put_buffer(lent, FROM);
-    end_line();
+fn put_lent<W: Write>(out: &mut W, lent: &[u8]) -> io::Result<()> {
+    out.write_all(b"b")?;
+    put_buffer(out, lent, FROM)?;
+    end_line(out)
 }
 
-fn asked(file: &[u8], lent: &mut [u8]) {
+fn asked<W: Write>(out: &mut W, file: &[u8], lent: &mut [u8]) -> io::Result<()> {
     fill(lent, FROM);
-    put_read(read_plan(file, lent));
-    put_lent(lent);
+    put_read(out, read_plan(file, lent))?;
+    put_lent(out, lent)
 }
 
-fn read(file: &mut [u8], lent: &mut [u8]) {
-    runs(file);
-    let f = place(file.len());
-    let n = place(lent.len());
-    asked(&file[..f], &mut lent[..n]);
+fn read<R: Read, W: Write>(
+    input: &mut R,
+    out: &mut W,
+    file: &mut [u8],
+    lent: &mut [u8],
+) -> io::Result<()> {
+    runs(input, file)?;
+    let f = place(input, file.len())?;
+    let n = place(input, lent.len())?;
+    asked(out, &file[..f], &mut lent[..n])
 }
 
 fn told(f: &[u64]) -> Fields
@@ -55,44 +61,65 @@ fn told(f: &[u64]) -> Fields
     }
 }
 
-fn wanted(told: Fields, settings: &[u8], lent: &mut [u8]) {
+fn wanted<W: Write>(out: &mut W, told: Fields, settings: &[u8], lent: &mut [u8]) -> io::Result<()> {
     fill(lent, FROM);
-    put_written(write_plan(told, settings, lent));
-    put_lent(lent);
+    put_written(out, write_plan(told, settings, lent))?;
+    put_lent(out, lent)
 }
 
-fn write(given: &mut [u8], kept: &mut [u64], lent: &mut [u8])
+fn write<R: Read, W: Write>(
+    input: &mut R,
+    out: &mut W,
+    given: &mut [u8],
+    kept: &mut [u64],
+    lent: &mut [u8],
+) -> io::Result<()>
     requires { length kept.old ≡ 12 }
 {
-    fields(kept);
-    runs(given);
-    let g = place(given.len());
-    let n = place(lent.len());
-    wanted(told(kept), &given[..g], &mut lent[..n]);
+    fields(input, kept)?;
+    runs(input, given)?;
+    let g = place(input, given.len())?;
+    let n = place(input, lent.len())?;
+    wanted(out, told(kept), &given[..g], &mut lent[..n])
 }
 
 // One call; false where there is none.
-fn call(file: &mut [u8], given: &mut [u8], kept: &mut [u64], lent: &mut [u8]) -> bool
+fn call<R: Read, W: Write>(
+    input: &mut R,
+    out: &mut W,
+    file: &mut [u8],
+    given: &mut [u8],
+    kept: &mut [u64],
+    lent: &mut [u8],
+) -> io::Result<bool>
     requires { length kept.old ≡ 12 }
 {
-    let which = byte();
+    let which = byte(input)?;
     if which == 1 {
-        read(file, lent);
-        return true;
+        read(input, out, file, lent)?;
+        return Ok(true);
     }
     if which == 2 {
-        write(given, kept, lent);
-        return true;
+        write(input, out, given, kept, lent)?;
+        return Ok(true);
     }
-    false
+    Ok(false)
 }
 
 // A proved loop has to end, and nothing says that the input does. So it counts down from a number that no run uses up.
-pub fn every_call(file: &mut [u8], given: &mut [u8], kept: &mut [u64], lent: &mut [u8])
+pub fn every_call<R: Read, W: Write>(
+    input: &mut R,
+    out: &mut W,
+    file: &mut [u8],
+    given: &mut [u8],
+    kept: &mut [u64],
+    lent: &mut [u8],
+) -> io::Result<()>
     requires { length kept.old ≡ 12 }
 {
     let mut turns = u64::MAX;
-    while turns > 0 && call(file, given, kept, lent) {
+    while turns > 0 && call(input, out, file, given, kept, lent)? {
         turns -= 1;
     }
+    Ok(())
 }

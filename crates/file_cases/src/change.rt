@@ -1,38 +1,42 @@
 // Changes to what stays from call to call.
 use crate::feed::{count, place};
-use libc::STDIN_FILENO;
-use shown::input::{byte, word};
+use shown::input::{byte, read_full, word};
+use std::io;
+use std::io::Read;
 
 // A run of bytes: where it starts (two bytes), how long it is (one), and the bytes.
-fn run(kept: &mut [u8]) {
-    let start = place(kept.len());
-    let end = start + count(kept.len() - start);
-    io::read_full(STDIN_FILENO, &mut kept[start..end]);
+fn run<R: Read>(input: &mut R, kept: &mut [u8]) -> io::Result<()> {
+    let start = place(input, kept.len())?;
+    let end = start + count(input, kept.len() - start)?;
+    read_full(input, &mut kept[start..end])
 }
 
 // A count of one byte, and so many runs.
-pub fn runs(kept: &mut [u8]) {
-    let mut left = byte();
+pub fn runs<R: Read>(input: &mut R, kept: &mut [u8]) -> io::Result<()> {
+    let mut left = byte(input)?;
     while 0 < left {
-        run(kept);
+        run(input, kept)?;
         left -= 1;
     }
+    Ok(())
 }
 
 // A field: which (one byte), and its value (eight).
-fn field(kept: &mut [u64]) {
-    let which = count(kept.len());
-    let value = word();
+fn field<R: Read>(input: &mut R, kept: &mut [u64]) -> io::Result<()> {
+    let which = count(input, kept.len())?;
+    let value = word(input)?;
     if which < kept.len() {
         kept[which] = value;
     }
+    Ok(())
 }
 
 // A count of one byte, and so many fields.
-pub fn fields(kept: &mut [u64]) {
-    let mut left = byte();
+pub fn fields<R: Read>(input: &mut R, kept: &mut [u64]) -> io::Result<()> {
+    let mut left = byte(input)?;
     while 0 < left {
-        field(kept);
+        field(input, kept)?;
         left -= 1;
     }
+    Ok(())
 }

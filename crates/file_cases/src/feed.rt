@@ -1,17 +1,19 @@
 // Counts and places that arrive on standard input.
-ghost use Rattle.std.specs.Prelude.{◌≤◌};
+ghost use Rattle.std.specs.Prelude.{◌≤◌, IfOk};
 
 use shown::input::{byte, least, pair};
+use std::io;
+use std::io::Read;
 
 // A count of one byte, and a place or a length of two, at most `most`.
-pub fn count(most: usize) -> usize
-    ensures { result ≤ most }
+pub fn count<R: Read>(input: &mut R, most: usize) -> io::Result<usize>
+    ensures { IfOk result (λ n. n ≤ most) }
 {
-    least(byte(), most)
+    Ok(least(byte(input)?, most))
 }
 
-pub fn place(most: usize) -> usize
-    ensures { result ≤ most }
+pub fn place<R: Read>(input: &mut R, most: usize) -> io::Result<usize>
+    ensures { IfOk result (λ n. n ≤ most) }
 {
-    least(pair(), most)
+    Ok(least(pair(input)?, most))
 }

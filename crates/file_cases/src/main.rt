@@ -6,16 +6,29 @@
 //   1, a read: the file's changes (change.rt), its length and that of the settings buffer, two bytes each;
 //   2, a write: the fields' changes, the settings' changes, the length of the settings and that of the file buffer, two bytes each.
 // Any other byte, or the end of the input, ends the run.
+#![tactic(auto)]
+
 mod calls;
 mod change;
 mod feed;
 mod show;
 
+use std::io;
+
 // A file and a buffer may be longer than any that the rules ask for. What is not yet given is zero.
-fn main() {
+fn main(rt: HostRuntime) -> io::Result<()> {
+    let mut input = rt.stdin();
+    let mut out = rt.stdout();
     let mut file = [0u8; 4608];
     let mut given = [0u8; 2048];
     let mut fields = [0u64; 12];
     let mut lent = [0u8; 4608];
-    calls::every_call(&mut file, &mut given, &mut fields, &mut lent);
+    calls::every_call(
+        &mut input,
+        &mut out,
+        &mut file,
+        &mut given,
+        &mut fields,
+        &mut lent,
+    )
 }

@@ -3,44 +3,46 @@ use planfile::read::ReadAnswer;
 use planfile::write::WriteAnswer;
 use rules::Fields;
 use shown::number::{put, put_refusal};
+use std::io;
+use std::io::Write;
 
 // The fields that every version has; the mark of weights goes behind the version.
-fn put_fields(f: Fields) {
-    put(f.scans);
-    put(f.settings);
-    put(f.law);
-    put(f.kind);
-    put(f.budget);
-    put(f.n);
-    put(f.d);
+fn put_fields<W: Write>(out: &mut W, f: Fields) -> io::Result<()> {
+    put(out, f.scans)?;
+    put(out, f.settings)?;
+    put(out, f.law)?;
+    put(out, f.kind)?;
+    put(out, f.budget)?;
+    put(out, f.n)?;
+    put(out, f.d)?;
     let rate = f.rate;
     let distortion = f.distortion;
     let floor = f.floor;
-    put(rate.0);
-    put(distortion.0);
-    put(f.peak);
-    put(floor.0);
+    put(out, rate.0)?;
+    put(out, distortion.0)?;
+    put(out, f.peak)?;
+    put(out, floor.0)
 }
 
-pub fn put_read(answer: ReadAnswer) {
+pub fn put_read<W: Write>(out: &mut W, answer: ReadAnswer) -> io::Result<()> {
     match answer {
         ReadAnswer::Read(p) => {
             let fields = p.fields;
-            put(0);
-            put_fields(fields);
-            put(p.version);
-            put(fields.weighted);
+            put(out, 0)?;
+            put_fields(out, fields)?;
+            put(out, p.version)?;
+            put(out, fields.weighted)
         }
-        ReadAnswer::Refused(r) => put_refusal(r),
+        ReadAnswer::Refused(r) => put_refusal(out, r),
     }
 }
 
-pub fn put_written(answer: WriteAnswer) {
+pub fn put_written<W: Write>(out: &mut W, answer: WriteAnswer) -> io::Result<()> {
     match answer {
         WriteAnswer::Written(length) => {
-            put(0);
-            put(length);
+            put(out, 0)?;
+            put(out, length)
         }
-        WriteAnswer::Refused(r) => put_refusal(r),
+        WriteAnswer::Refused(r) => put_refusal(out, r),
     }
 }

@@ -3,75 +3,105 @@ use fits::call::{FitsAnswer, fits};
 use shown::coded::made;
 use shown::input::{least, word};
 use shown::number::{end_line, put, put_refusal};
+use std::io;
+use std::io::{Read, Write};
 
 // The numbers that every call of a group takes.
-#[derive(Drop)]
+#[derive(Clone, Copy)]
 struct Case {
     scans: u64,
     settings: u64,
     law: u64,
 }
 
-fn put_answer(answer: FitsAnswer) {
+fn put_answer<W: Write>(out: &mut W, answer: FitsAnswer) -> io::Result<()> {
     match answer {
         FitsAnswer::Yes => {
-            put(0);
-            put(1);
+            put(out, 0)?;
+            put(out, 1)
         }
         FitsAnswer::No => {
-            put(0);
-            put(0);
+            put(out, 0)?;
+            put(out, 0)
         }
-        FitsAnswer::Refused(r) => put_refusal(r),
+        FitsAnswer::Refused(r) => put_refusal(out, r),
     }
 }
 
 // One call.
-fn one(case: Case, rates: &[u32], distortions: &[u32]) {
-    let budget = word();
-    put_answer(fits(
-        case.scans,
-        case.settings,
-        case.law,
-        budget,
-        rates,
-        distortions,
-    ));
-    end_line();
+fn one<R: Read, W: Write>(
+    input: &mut R,
+    out: &mut W,
+    case: Case,
+    rates: &[u32],
+    distortions: &[u32],
+) -> io::Result<()> {
+    let budget = word(input)?;
+    put_answer(
+        out,
+        fits(
+            case.scans,
+            case.settings,
+            case.law,
+            budget,
+            rates,
+            distortions,
+        ),
+    )?;
+    end_line(out)
 }
 
-fn calls(case: Case, count: u64, rates: &[u32], distortions: &[u32]) {
+fn calls<R: Read, W: Write>(
+    input: &mut R,
+    out: &mut W,
+    case: Case,
+    count: u64,
+    rates: &[u32],
+    distortions: &[u32],
+) -> io::Result<()> {
     let mut left = count;
     while 0 < left {
-        one(case, rates, distortions);
+        one(input, out, case, rates, distortions)?;
         left -= 1;
     }
+    Ok(())
 }
 
 // One group; false where the input ends.
-fn group(rates: &mut [u32], distortions: &mut [u32]) -> bool {
-    let source = word();
+fn group<R: Read, W: Write>(
+    input: &mut R,
+    out: &mut W,
+    rates: &mut [u32],
+    distortions: &mut [u32],
+) -> io::Result<bool> {
+    let source = word(input)?;
     if source == 0 {
-        return false;
+        return Ok(false);
     }
     let case = Case {
-        scans: word(),
-        settings: word(),
-        law: word(),
+        scans: word(input)?,
+        settings: word(input)?,
+        law: word(input)?,
     };
-    let r = least(word(), rates.len());
-    let d = least(word(), distortions.len());
-    let count = word();
-    made(source, &mut rates[..r]);
-    made(source, &mut distortions[..d]);
-    calls(case, count, &rates[..r], &distortions[..d]);
-    true
+    let r = least(word(input)?, rates.len());
+    let d = least(word(input)?, distortions.len());
+    let count = word(input)?;
+    made(input, source, &mut rates[..r])?;
+    made(input, source, &mut distortions[..d])?;
+    calls(input, out, case, count, &rates[..r], &distortions[..d])?;
+    Ok(true)
 }
 
 // A proved loop has to end, and nothing says that the input does. So it counts down from a number that no run uses up.
-pub fn every_group(rates: &mut [u32], distortions: &mut [u32]) {
+pub fn every_group<R: Read, W: Write>(
+    input: &mut R,
+    out: &mut W,
+    rates: &mut [u32],
+    distortions: &mut [u32],
+) -> io::Result<()> {
     let mut turns = u64::MAX;
-    while turns > 0 && group(rates, distortions) {
+    while turns > 0 && group(input, out, rates, distortions)? {
         turns -= 1;
     }
+    Ok(())
 }

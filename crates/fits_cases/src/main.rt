@@ -6,11 +6,17 @@
 //   N, Q, law, the lengths of the two tables as they are lent, and how many calls follow;
 //   the cells, as plan_cases has them;
 //   the calls, a number each: the budget.
+#![tactic(auto)]
+
 mod lend;
 
+use std::io;
+
 // The tables of all cases, and some room past that.
-fn main() {
+fn main(rt: HostRuntime) -> io::Result<()> {
+    let mut input = rt.stdin();
+    let mut out = rt.stdout();
     let mut rates = [0u32; 262144];
     let mut distortions = [0u32; 262144];
-    lend::every_group(&mut rates, &mut distortions);
+    lend::every_group(&mut input, &mut out, &mut rates, &mut distortions)
 }

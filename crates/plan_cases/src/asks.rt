@@ -3,51 +3,54 @@ use crate::feed::narrow;
 use crate::show::put_totals;
 use promise::{AverageAnswer, MinmaxAnswer, PlanAnswer};
 use shown::number::{put, put_refusal};
+use std::io;
+use std::io::Write;
 
 // The numbers that every planning call takes.
-#[derive(Drop)]
+#[derive(Clone, Copy)]
 pub struct Case {
     pub scans: u64,
     pub settings: u64,
     pub law: u64,
 }
 
-fn put_planned(answer: PlanAnswer) {
+fn put_planned<W: Write>(out: &mut W, answer: PlanAnswer) -> io::Result<()> {
     match answer {
         PlanAnswer::Planned(totals) => {
-            put(0);
-            put_totals(totals);
+            put(out, 0)?;
+            put_totals(out, totals)
         }
-        PlanAnswer::Refused(r) => put_refusal(r),
+        PlanAnswer::Refused(r) => put_refusal(out, r),
     }
 }
 
-fn put_minmax(answer: MinmaxAnswer) {
+fn put_minmax<W: Write>(out: &mut W, answer: MinmaxAnswer) -> io::Result<()> {
     match answer {
         MinmaxAnswer::Planned(planned) => {
-            put(0);
-            put(planned.ceiling);
-            put_totals(planned.totals);
+            put(out, 0)?;
+            put(out, planned.ceiling)?;
+            put_totals(out, planned.totals)
         }
-        MinmaxAnswer::Refused(r) => put_refusal(r),
+        MinmaxAnswer::Refused(r) => put_refusal(out, r),
     }
 }
 
-fn put_average(answer: AverageAnswer) {
+fn put_average<W: Write>(out: &mut W, answer: AverageAnswer) -> io::Result<()> {
     match answer {
         AverageAnswer::Planned(planned) => {
-            put(0);
-            put(planned.n);
-            put(planned.d);
-            put_totals(planned.totals);
+            put(out, 0)?;
+            put(out, planned.n)?;
+            put(out, planned.d)?;
+            put_totals(out, planned.totals)?;
             let floor = planned.floor;
-            put(floor.0);
+            put(out, floor.0)
         }
-        AverageAnswer::Refused(r) => put_refusal(r),
+        AverageAnswer::Refused(r) => put_refusal(out, r),
     }
 }
 
-fn ceiling(
+fn ceiling<W: Write>(
+    out: &mut W,
     case: Case,
     limit: u64,
     rates: &[u32],
@@ -55,22 +58,26 @@ fn ceiling(
     weights: &[u8],
     plan: &mut [u8],
     scratch: &mut [u8],
-) {
+) -> io::Result<()> {
     let x = narrow(limit);
-    put_planned(planner::ceiling::ceiling_plan(
-        case.scans,
-        case.settings,
-        case.law,
-        x,
-        rates,
-        distortions,
-        weights,
-        plan,
-        scratch,
-    ));
+    put_planned(
+        out,
+        planner::ceiling::ceiling_plan(
+            case.scans,
+            case.settings,
+            case.law,
+            x,
+            rates,
+            distortions,
+            weights,
+            plan,
+            scratch,
+        ),
+    )
 }
 
-fn multiplier(
+fn multiplier<W: Write>(
+    out: &mut W,
     case: Case,
     n: u64,
     d: u64,
@@ -79,22 +86,26 @@ fn multiplier(
     weights: &[u8],
     plan: &mut [u8],
     scratch: &mut [u8],
-) {
-    put_planned(planner::multiplier::multiplier_plan(
-        case.scans,
-        case.settings,
-        case.law,
-        n,
-        d,
-        rates,
-        distortions,
-        weights,
-        plan,
-        scratch,
-    ));
+) -> io::Result<()> {
+    put_planned(
+        out,
+        planner::multiplier::multiplier_plan(
+            case.scans,
+            case.settings,
+            case.law,
+            n,
+            d,
+            rates,
+            distortions,
+            weights,
+            plan,
+            scratch,
+        ),
+    )
 }
 
-fn minmax(
+fn minmax<W: Write>(
+    out: &mut W,
     case: Case,
     budget: u64,
     rates: &[u32],
@@ -102,21 +113,25 @@ fn minmax(
     weights: &[u8],
     plan: &mut [u8],
     scratch: &mut [u8],
-) {
-    put_minmax(planner::minmax::minmax_plan(
-        case.scans,
-        case.settings,
-        case.law,
-        budget,
-        rates,
-        distortions,
-        weights,
-        plan,
-        scratch,
-    ));
+) -> io::Result<()> {
+    put_minmax(
+        out,
+        planner::minmax::minmax_plan(
+            case.scans,
+            case.settings,
+            case.law,
+            budget,
+            rates,
+            distortions,
+            weights,
+            plan,
+            scratch,
+        ),
+    )
 }
 
-fn average(
+fn average<W: Write>(
+    out: &mut W,
     case: Case,
     budget: u64,
     rates: &[u32],
@@ -124,21 +139,25 @@ fn average(
     weights: &[u8],
     plan: &mut [u8],
     scratch: &mut [u8],
-) {
-    put_average(planner::average::average_plan(
-        case.scans,
-        case.settings,
-        case.law,
-        budget,
-        rates,
-        distortions,
-        weights,
-        plan,
-        scratch,
-    ));
+) -> io::Result<()> {
+    put_average(
+        out,
+        planner::average::average_plan(
+            case.scans,
+            case.settings,
+            case.law,
+            budget,
+            rates,
+            distortions,
+            weights,
+            plan,
+            scratch,
+        ),
+    )
 }
 
-pub fn ask(
+pub fn ask<W: Write>(
+    out: &mut W,
     which: u64,
     case: Case,
     limit: u64,
@@ -148,10 +167,11 @@ pub fn ask(
     weights: &[u8],
     plan: &mut [u8],
     scratch: &mut [u8],
-) {
+) -> io::Result<()> {
     match which {
-        1 => ceiling(case, limit, rates, distortions, weights, plan, scratch),
+        1 => ceiling(out, case, limit, rates, distortions, weights, plan, scratch),
         2 => multiplier(
+            out,
             case,
             limit,
             other,
@@ -161,7 +181,7 @@ pub fn ask(
             plan,
             scratch,
         ),
-        3 => minmax(case, limit, rates, distortions, weights, plan, scratch),
-        _ => average(case, limit, rates, distortions, weights, plan, scratch),
+        3 => minmax(out, case, limit, rates, distortions, weights, plan, scratch),
+        _ => average(out, case, limit, rates, distortions, weights, plan, scratch),
     }
 }

@@ -9,23 +9,31 @@
 //   the cells (coded.rt of shown);
 //   of a group with weights, these, a byte each (weights.rt of shown);
 //   the calls, three numbers each: which (1 ceiling, 2 multiplier, 3 minmax, 4 average), X or n or B, and d.
+#![tactic(auto)]
+
 mod asks;
 mod feed;
 mod lend;
 mod show;
 
+use std::io;
+
 // The tables, the weights and the buffers at their largest, and some room past that, so that longer ones can be lent too.
-fn main() {
+fn main(rt: HostRuntime) -> io::Result<()> {
+    let mut input = rt.stdin();
+    let mut out = rt.stdout();
     let mut rates = [0u32; 262144];
     let mut distortions = [0u32; 262144];
     let mut weights = [0u8; 2048];
     let mut plan = [0u8; 2048];
     let mut scratch = [0u8; 32768];
     lend::every_group(
+        &mut input,
+        &mut out,
         &mut rates,
         &mut distortions,
         &mut weights,
         &mut plan,
         &mut scratch,
-    );
+    )
 }

@@ -5,7 +5,8 @@
 ghost use Rattle.std.specs.Prelude.{◌*◌, ◌<◌, ◌≤◌, length};
 
 use crate::number::put_marked;
-use libc::STDOUT_FILENO;
+use std::io;
+use std::io::Write;
 
 fn pattern(i: usize, from: usize) -> u8 {
     ((i % 251 * 7 + from % 251) % 251 + 1) as u8
@@ -48,30 +49,31 @@ fn spell(bytes: &[u8], text: &mut [u8])
 }
 
 // At most 64 bytes, two digits each.
-fn put_part(bytes: &[u8]) {
+fn put_part<W: Write>(out: &mut W, bytes: &[u8]) -> io::Result<()> {
     let mut text = [0u8; 128];
     let n = bytes.len();
     if n <= 64 {
         spell(bytes, &mut text);
-        io::write_all(STDOUT_FILENO, &text[..2 * n]);
+        out.write_all(&text[..2 * n])?;
     }
+    Ok(())
 }
 
-fn put_digits(bytes: &[u8]) {
+fn put_digits<W: Write>(out: &mut W, bytes: &[u8]) -> io::Result<()> {
     let mut i = 0;
     while 64 < bytes.len() - i {
         let end = i + 64;
-        put_part(&bytes[i..end]);
+        put_part(out, &bytes[i..end])?;
         i = end;
     }
-    put_part(&bytes[i..]);
+    put_part(out, &bytes[i..])
 }
 
-fn put_run(bytes: &[u8], kind: u64) {
+fn put_run<W: Write>(out: &mut W, bytes: &[u8], kind: u64) -> io::Result<()> {
     match kind {
-        0 => put_marked(b"k", bytes.len() as u64),
-        1 => put_marked(b"z", bytes.len() as u64),
-        _ => put_digits(bytes),
+        0 => put_marked(out, b"k", bytes.len() as u64),
+        1 => put_marked(out, b"z", bytes.len() as u64),
+        _ => put_digits(out, bytes),
     }
 }
 
@@ -103,14 +105,14 @@ fn run_end(buffer: &[u8], from: usize, kind: u64, start: usize) -> usize
 }
 
 // A buffer that was filled from `from`, after the call.
-pub fn put_buffer(buffer: &[u8], from: usize) {
+pub fn put_buffer<W: Write>(out: &mut W, buffer: &[u8], from: usize) -> io::Result<()> {
     let mut i = 0;
     while i < buffer.len() {
         let x = buffer[i];
         let kind = kind_of(x, i, from);
         let end = run_end(buffer, from, kind, i + 1);
-        put_run(&buffer[i..end], kind);
+        put_run(out, &buffer[i..end], kind)?;
         i = end;
     }
-    io::write_all(STDOUT_FILENO, b" ");
+    out.write_all(b" ")
 }

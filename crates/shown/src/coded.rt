@@ -2,9 +2,11 @@
 // whose numbers follow.
 ghost use Rattle.std.specs.Prelude.{◌<◌};
 
+use crate::input::read_full;
 use crate::stream::generated;
 use octets::cast::byte_to_cell;
-use libc::STDIN_FILENO;
+use std::io;
+use std::io::Read;
 
 // Codes from 240 on stand for the cells about which the rules say something of their own; a code below is the cell.
 const SPECIAL: [u32; 16] = [
@@ -26,27 +28,28 @@ fn cell_of(code: u8) -> u32 {
 }
 
 // The next byte of the input; past its end it is 0.
-fn code() -> u8 {
+fn code<R: Read>(input: &mut R) -> io::Result<u8> {
     let mut b = [0u8; 1];
-    io::read_full(STDIN_FILENO, &mut b);
-    b[0]
+    read_full(input, &mut b)?;
+    Ok(b[0])
 }
 
-fn coded(table: &mut [u32]) {
+fn coded<R: Read>(input: &mut R, table: &mut [u32]) -> io::Result<()> {
     let mut i = 0;
     while i < table.len() {
-        table[i] = cell_of(code());
+        table[i] = cell_of(code(input)?);
         i += 1;
     }
+    Ok(())
 }
 
 // The cells of one table, from the group's source; from any other number it stays as it is.
-pub fn made(source: u64, table: &mut [u32]) {
+pub fn made<R: Read>(input: &mut R, source: u64, table: &mut [u32]) -> io::Result<()> {
     if source == 2 {
-        coded(table);
-        return;
+        return coded(input, table);
     }
     if source == 3 {
-        generated(table);
+        return generated(input, table);
     }
+    Ok(())
 }

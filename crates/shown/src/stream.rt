@@ -2,6 +2,8 @@
 ghost use Rattle.std.specs.Prelude.{◌<◌};
 
 use crate::input::word;
+use std::io;
+use std::io::Read;
 
 // The next number of the stream: the multiplier 48,271 modulo the prime 2^31 - 1.
 fn next(x: u64) -> u64
@@ -48,10 +50,11 @@ fn stream(table: &mut [u32], seed: u64, base: u64, span: u64, forbid: u64)
 }
 
 // The cells of a table, by the generator whose four numbers follow in the input.
-pub fn generated(table: &mut [u32]) {
-    let seed = word() % 2147483647;
-    let base = word();
-    let span = word();
-    let forbid = word();
+pub fn generated<R: Read>(input: &mut R, table: &mut [u32]) -> io::Result<()> {
+    let seed = word(input)? % 2147483647;
+    let base = word(input)?;
+    let span = word(input)?;
+    let forbid = word(input)?;
     stream(table, seed, base, span, forbid);
+    Ok(())
 }

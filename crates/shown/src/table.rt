@@ -6,7 +6,8 @@ ghost use Rattle.std.specs.Prelude.{◌≤◌, length};
 
 use crate::number::{put_marked, put_stopped};
 use octets::cast::cell_to_number;
-use libc::STDOUT_FILENO;
+use std::io;
+use std::io::Write;
 use std::num::wrapping_add_u32;
 use tables::limits::FORBIDDEN;
 
@@ -24,20 +25,21 @@ pub fn fill_table(table: &mut [u32], from: u32) {
     }
 }
 
-fn put_cells(cells: &[u32]) {
+fn put_cells<W: Write>(out: &mut W, cells: &[u32]) -> io::Result<()> {
     let mut i = 0;
     while i < cells.len() {
-        put_stopped(cell_to_number(cells[i]));
+        put_stopped(out, cell_to_number(cells[i]))?;
         i += 1;
     }
+    Ok(())
 }
 
-fn put_run(cells: &[u32], kind: u64) {
+fn put_run<W: Write>(out: &mut W, cells: &[u32], kind: u64) -> io::Result<()> {
     match kind {
-        0 => put_marked(b"k", cells.len() as u64),
-        1 => put_marked(b"f", cells.len() as u64),
-        2 => put_marked(b"z", cells.len() as u64),
-        _ => put_cells(cells),
+        0 => put_marked(out, b"k", cells.len() as u64),
+        1 => put_marked(out, b"f", cells.len() as u64),
+        2 => put_marked(out, b"z", cells.len() as u64),
+        _ => put_cells(out, cells),
     }
 }
 
@@ -70,14 +72,14 @@ fn run_end(table: &[u32], from: u32, kind: u64, start: usize) -> usize
 }
 
 // A table that was filled from `from`, after the call.
-pub fn put_whole(table: &[u32], from: u32) {
+pub fn put_whole<W: Write>(out: &mut W, table: &[u32], from: u32) -> io::Result<()> {
     let mut i = 0;
     while i < table.len() {
         let x = table[i];
         let kind = kind_of(x, i, from);
         let end = run_end(table, from, kind, i + 1);
-        put_run(&table[i..end], kind);
+        put_run(out, &table[i..end], kind)?;
         i = end;
     }
-    io::write_all(STDOUT_FILENO, b" ");
+    out.write_all(b" ")
 }
