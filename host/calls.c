@@ -1,7 +1,7 @@
 /* Calls of the archive from standard input, what each gives back and leaves on standard output: the tests from outside compare it with the
  * second program. Each lent buffer is exactly as long as asked, between guard bytes, and filled with a pattern before the call; so are the
- * tables of an import and the totals of the true best, between guard cells (lent.h). The tables of an export and of the true best stand
- * between guard cells too, and the weights of a call between guard bytes, and must be as they were.
+ * tables of an import and the totals of the true best, between guard cells (lent.h). The tables of an export, of the true best and of the
+ * question whether something fits stand between guard cells too, and the weights of a call between guard bytes, and must be as they were.
  *
  * A call is words parted by blanks. Numbers are decimal; bytes are hexadecimal, or "-" for none.
  *   room CHANNELS SCANS SETTINGS ANSWER
@@ -9,6 +9,7 @@
  *   multiplier SCANS SETTINGS LAW N D PLAN SCRATCH ANSWER RATES DISTORTIONS WEIGHTS cells.. weights..
  *   minmax, average: SCANS SETTINGS LAW B PLAN SCRATCH ANSWER RATES DISTORTIONS WEIGHTS cells.. weights..
  *   best SCANS SETTINGS LAW B PLAN CHOICES TOTALS ANSWER RATES DISTORTIONS WEIGHTS cells.. weights..
+ *   fits SCANS SETTINGS LAW B ANSWER RATES DISTORTIONS cells..
  *   read PLAN ANSWER bytes of the file
  *   write twelve fields FILE bytes of the settings
  *   import SCANS SETTINGS RATES DISTORTIONS bytes of scratch bytes of the text
@@ -205,6 +206,17 @@ static void best(void) {
     kept(&content);
 }
 
+static void fits(void) {
+    uint64_t scans = number(), settings = number(), law = number(), budget = number();
+    lent answer = lend(size(), ANSWER_FROM);
+    size_t rates_length = size(), distortions_length = size();
+    both_tables tables = given_tables(rates_length, distortions_length);
+    printf("%" PRIu64, qpl_fits(scans, settings, law, budget, tables.rates.cells, tables.rates.length, tables.distortions.cells,
+                                tables.distortions.length, answer.bytes, answer.length));
+    show(&answer);
+    tables_kept(&tables);
+}
+
 static void read_file(void) {
     lent plan = lend(size(), PLAN_FROM), answer = lend(size(), ANSWER_FROM), file = bytes();
     read_only content = keep(file);
@@ -269,6 +281,8 @@ int main(void) {
             export_list();
         else if (strcmp(which, "best") == 0)
             best();
+        else if (strcmp(which, "fits") == 0)
+            fits();
         else if (strcmp(which, "ceiling") == 0 || strcmp(which, "multiplier") == 0 || strcmp(which, "minmax") == 0 ||
                  strcmp(which, "average") == 0)
             plan(which);

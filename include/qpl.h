@@ -22,7 +22,7 @@
  *       scan
  *    6  a lent buffer shorter than needed; in qpl_import a table too
  *    7  illegal cell, in a planning call and in qpl_best also one whose distortion times its scan's weight is over 1,048,575; carries the
- *       lowest illegal cell's number
+ *       lowest illegal cell's number, in qpl_fits the lowest of the first scan that is read and has one
  *    8  no allowed sequence, whatever the limit
  *    9  allowed sequences exist, none within ceiling or budget
  *   10  channels is 0 or over 1,048,576
@@ -52,7 +52,7 @@
  * weights, which have 8: a weight over 255 is cut by C before the call sees it, and no call can refuse it.
  *
  * The scope of the library names the room question and the reader for C hosts, "with numbers and byte slices". The writer, the four planning
- * calls, the true best, and import and export go beyond that, and so do the slices of 32-bit cells.
+ * calls, the true best, the question whether something fits, and import and export go beyond that, and so do the slices of 32-bit cells.
  */
 #ifndef QPL_H
 #define QPL_H
@@ -73,8 +73,10 @@ extern "C" {
 #define QPL_AVERAGE_ANSWER 48
 #define QPL_EXPORT_ANSWER 8
 #define QPL_BEST_ANSWER 24
+#define QPL_FITS_ANSWER 8
 
-/* A call takes at most this much stack, in bytes from the caller's stack pointer at the call. That is measured, and not proved.
+/* A call takes at most this much stack, in bytes from the caller's stack pointer at the call. That is measured, and not proved. qpl_fits is
+ * not among what was measured yet.
  *
  * host/stack.c runs the calls of the x86-64 archive on a painted stack and finds the deepest byte that changed, the return address counted:
  * room 96, read 728, write 664, ceiling 5,256, multiplier 5,272, minmax 5,288, average 5,432, import 328, export 544, best 5,512. It runs the
@@ -111,6 +113,7 @@ enum { QPL_MINMAX_CEILING, QPL_MINMAX_RATE, QPL_MINMAX_DISTORTION, QPL_MINMAX_PE
 enum { QPL_AVERAGE_N, QPL_AVERAGE_D, QPL_AVERAGE_RATE, QPL_AVERAGE_DISTORTION, QPL_AVERAGE_PEAK, QPL_AVERAGE_FLOOR };
 enum { QPL_EXPORT_LENGTH };
 enum { QPL_BEST_RATE, QPL_BEST_DISTORTION, QPL_BEST_PEAK };
+enum { QPL_FITS_YES };
 
 /* The kinds of a plan file: what an average call answers, and what a minmax call does. */
 enum { QPL_KIND_AVERAGE = 0, QPL_KIND_MINMAX = 1 };
@@ -248,6 +251,23 @@ uint64_t qpl_best(uint64_t scans, uint64_t settings, uint64_t law, uint64_t budg
                   const uint32_t *distortions, size_t distortions_length, const uint8_t *weights, size_t weights_length, uint8_t *plan,
                   size_t plan_length, uint8_t *choices, size_t choices_length, uint32_t *totals, size_t totals_length, uint8_t *answer,
                   size_t answer_length);
+
+/* Can it fit at all? Whether some allowed sequence has a rate of at most `budget`, and no more than that: 1 where one has, 0 where none has,
+ * be it that no sequence is allowed (8 in a planning call) or that each has a rate over `budget` (9 there).
+ *
+ * Tables and laws are those of the planning calls; there are no weights, and nothing is lent but the answer. The scans are read one by one,
+ * and reading ends where the answer is known. Scan 0 is read. Scan k from 1 is read exactly where no scan before it has an illegal cell and
+ * some allowed beginning of k scans (k settings below `settings` that use no forbidden cell and keep the law, whatever may follow them) has
+ * a rate of at most `budget`. All cells of a scan that is read are judged, in both tables, before any of it is counted: an illegal one there
+ * gives 7 and the number of the lowest of that scan. Illegal cells of scans that are not read change nothing, and the answer is 0. Where
+ * every cell is legal, the answer is 1 exactly where qpl_average and qpl_minmax, at the same budget and past their checks 1 to 7, give a
+ * plan, whatever the weights.
+ *
+ * Answer (8 bytes): 1 or 0.
+ * Refusals, the first that applies: 1, 2, 3, 5 (rates or distortions alone), 7, 6 (answer under 8 bytes, whether it would be 1 or 0). Only
+ * the first 8 bytes of answer may change, and on 0 alone. */
+uint64_t qpl_fits(uint64_t scans, uint64_t settings, uint64_t law, uint64_t budget, const uint32_t *rates, size_t rates_length,
+                  const uint32_t *distortions, size_t distortions_length, uint8_t *answer, size_t answer_length);
 
 /* Lists: what the trial encoder measured, one line for each cell: scan, previous setting, setting, rate, distortion, parted by commas, with
  * line ends and quotes as in RFC 4180 and no heading line. The cells are those of the planning calls.

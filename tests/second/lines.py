@@ -1,4 +1,4 @@
-"""The lines of output of plan_cases and file_cases, one for each call, and the text that says how many there are of each kind."""
+"""The lines of output of plan_cases, file_cases and fits_cases, one for each call, and the text that says how many there are of each kind."""
 
 from buffers import shown
 

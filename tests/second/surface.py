@@ -1,6 +1,7 @@
 #!/usr/bin/env python3
 """What the calls of the C surface must give back and leave, from include/qpl.h and documents 01 and 02, sharing nothing with the library."""
 
+import fits
 import lists
 import planfile
 import planner
@@ -9,7 +10,7 @@ from planner import AVERAGE, CEILING, MINMAX, MULTIPLIER
 
 NAMES = {CEILING: "ceiling", MULTIPLIER: "multiplier", MINMAX: "minmax", AVERAGE: "average"}
 NEEDS = {CEILING: 24, MULTIPLIER: 24, MINMAX: 32, AVERAGE: 48}
-ROOM_NEEDS, READ_NEEDS, EXPORT_NEEDS, BEST_NEEDS = 24, 104, 8, 24
+ROOM_NEEDS, READ_NEEDS, EXPORT_NEEDS, BEST_NEEDS, FITS_NEEDS = 24, 104, 8, 24, 8
 
 # The documents' orders: a buffer that is too short is 6, after these and before all others.
 BEFORE_ROOM = {1, 2, 3, 4, 5, 11, 12, 13, 19}
@@ -54,6 +55,16 @@ def best_call(make, scans, settings, law, budget, rates, distortions, weights, p
     if number:
         return word(number, values[0]), answer, *after
     return 0, with_values(values, answer), *after
+
+
+def fits_call(make, scans, settings, law, budget, rates, distortions, answer):
+    """The number, and the buffer answer. A short answer buffer is 6, for yes and for no, and comes last."""
+    number, values = fits.answer(make, scans, settings, law, budget, rates, distortions)
+    if number:
+        return word(number, values[0]), answer
+    if len(answer) < FITS_NEEDS:
+        return word(6, 0), answer
+    return 0, with_values(values, answer)
 
 
 def read_call(file, plan, answer):
