@@ -5,7 +5,6 @@ ghost use Rattle.std.specs.Prelude.{cond, ◌≡◌, ℕ, ◌+◌, ◌≤◌, �
 ghost use Rattle.least.specs.Row.{price_of, candidate, Ready, Joins, RunOf, BestOf, Light};
 
 use keys::cost::{Amount, Dist, Rate, cost};
-use octets::cast::cell_to_number;
 use tables::limits::FORBIDDEN;
 
 // No allowed sequence leads to the end: more than any sequence costs, and twice it still fits.
@@ -46,10 +45,10 @@ fn price(rule: Rule, rate: u32, counted: u32) -> Amount
     ensures { result.0 ≡ price_of rule rate counted }
 {
     let open = cost(
-        Rate(cell_to_number(rate)),
-        Dist(cell_to_number(counted)),
-        cell_to_number(rule.b),
-        cell_to_number(rule.a),
+        Rate(u64::from(rate)),
+        Dist(u64::from(counted)),
+        u64::from(rule.b),
+        u64::from(rule.a),
     );
     Amount(choose(rate == FORBIDDEN, NO_WAY, open.0))
 }

@@ -2,16 +2,16 @@
 ghost use Rattle.std.specs.Prelude.{◌≡◌, [], ℕ, suc, ◌≤◌, ◌<◌, get_or, length};
 ghost use Rattle.tables.specs.Limits.{most_scans, most_settings};
 ghost use Rattle.tables.specs.Law.{law_of};
-ghost use Rattle.tables.specs.Tables.{table, scratch_need};
-ghost use Rattle.checks.specs.Fit.{Fit};
+ghost use Rattle.tables.specs.Tables.{scratch_need};
+ghost use Rattle.checks.specs.Given.{table_in};
 ghost use Rattle.least.specs.Row.{Ready, Light};
 ghost use Rattle.trellis.specs.Stepped.{Stepped};
 ghost use Rattle.trellis.specs.Pass.{PassOf, pass_problem};
 
 use crate::choices::store;
 use crate::square::{row_into, square_into};
+use checks::checked::Checked;
 use least::{NO_WAY, Rule, pick};
-use octets::cast::byte_to_cell;
 use tables::law::run;
 
 // One scan, from its squares, which are closed and weighed: what lies ahead of each setting before it, and the choices.
@@ -50,34 +50,30 @@ fn step(
 
 // The whole pass: is there a sequence under the ceiling? If so the choices in scratch lead along the best.
 pub fn pass(
-    scans: usize,
-    settings: usize,
-    law: u64,
+    t: &Checked,
     rule: Rule,
-    rates: &[u32],
-    distortions: &[u32],
-    weights: &[u8],
     scratch: &mut [u8],
 ) -> bool
-    requires fit { Fit scans settings rates.now distortions.now weights.now (length scratch.old) }
+    requires room { scratch_need t.now.scans t.now.settings ≤ length scratch.old }
     requires light { Light rule }
-    ensures { PassOf (pass_problem rule.ceiling (table scans settings law rates.now distortions.now weights.now)) scans settings rule scratch.old scratch.new result }
+    ensures { PassOf (pass_problem rule.ceiling (table_in t.now)) t.now.scans t.now.settings rule scratch.old scratch.new result }
 {
     let mut keys = [0u64; 16];
     let mut rate_square = [[0u32; 16]; 16];
     let mut counted_square = [[0u32; 16]; 16];
+    let settings = t.settings;
     let size = settings * settings;
     let ceiling = rule.ceiling;
-    let mut i = scans - 1;
+    let mut i = t.scans - 1;
     while 0 < i {
         let before = i - 1;
         let at = settings + before * size;
-        let weight = byte_to_cell(weights[i]);
+        let weight = u32::from(t.weights[i]);
         square_into(
             &mut rate_square,
             &mut counted_square,
-            rates,
-            distortions,
+            t.rates,
+            t.distortions,
             weight,
             ceiling,
             at,
@@ -87,7 +83,7 @@ pub fn pass(
             rate_square,
             counted_square,
             rule,
-            law,
+            t.law,
             &mut keys,
             scratch,
             i,
@@ -98,12 +94,12 @@ pub fn pass(
     let mut row = [0u64; 16];
     let mut first_rates = [0u32; 16];
     let mut first_counted = [0u32; 16];
-    let first_weight = byte_to_cell(weights[0]);
+    let first_weight = u32::from(t.weights[0]);
     row_into(
         &mut first_rates,
         &mut first_counted,
-        rates,
-        distortions,
+        t.rates,
+        t.distortions,
         first_weight,
         ceiling,
         0,
