@@ -40,8 +40,8 @@ fn step(
             &distortions[p],
             rule,
             &ahead,
-            span.from,
-            span.to,
+            span.start,
+            span.end,
         );
         keys[p] = best.key.0;
         store(scratch, settings, scan, p, best.first);
