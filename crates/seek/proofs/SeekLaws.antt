@@ -125,6 +125,10 @@ pub fit_framed : {N Q k : ℕ} {rates distortions weights before after : List �
     Fit N Q rates distortions weights (length after)
 fit_framed fit f = rw f.long fit
 
+-- .. and so has the room that it had
+pub room_framed : {k : ℕ} {before after : List ℕ} → k ≤ length before → Framed k before after → k ≤ length after
+room_framed h f = rw f.long h
+
 -- so it can be wiped
 pub wipe_fits : {N Q : ℕ} {rates distortions weights : List ℕ} {room : ℕ} → Fit N Q rates distortions weights room →
     (N ≤ most_scans) × ((Q ≤ most_settings) × (scratch_need N Q ≤ room))
