@@ -71,8 +71,8 @@ module _ {N Q : ℕ} (law : Law) {rates distortions weights : List ℕ} {room : 
       PassOf (pass_problem rule.ceiling T) N Q rule before after found → ThriftyPass P N Q rule.ceiling before after found
   thrifty_passed {rule} {before} {after} ea eb p = record {
     none = λ e t w. p.none e t (under_pass rule.ceiling t w);
-    some = λ e. (ceiling_by_key P most_total sums_small rule.ceiling 1 rate_first rates_first (chosen Q N after)).0
-        (rw (ea, eb) at (least_same (pass_under_peak rule.ceiling) (under_pass rule.ceiling) (p.some e)));
+    some = λ e. (ceiling_by_key P most_total sums_small rule.ceiling rule.a rule.b (rw (ea, eb) rates_first) (chosen Q N after)).0
+        (least_same (pass_under_peak rule.ceiling) (under_pass rule.ceiling) (p.some e));
     framed = record { long = p.long; rest = p.rest };
   }
 
