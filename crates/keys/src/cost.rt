@@ -1,6 +1,7 @@
 // Bits and distortion are separate quantities. They meet only here, through a multiplier or through weights in its place. A tuple struct of
 // one number for each kind is the form that document 01 names.
-ghost use Rattle.std.specs.Prelude.{◌≡◌, ◌+◌, ◌*◌, ◌<◌, ◌^◌};
+ghost use Rattle.std.specs.Prelude.{◌≡◌, ◌+◌, ◌*◌, ◌≤◌, ◌<◌, ◌^◌};
+ghost use Rattle.tables.specs.Limits.{most_term};
 
 // Bits.
 #[derive(Clone, Copy, Debug, PartialEq, Eq, PartialOrd, Ord)]
@@ -14,11 +15,12 @@ pub struct Dist(pub u64);
 #[derive(Clone, Copy, Debug, PartialEq, Eq, PartialOrd, Ord)]
 pub struct Amount(pub u64);
 
-// A multiplier n/d.
+// A multiplier n/d, with n and d in their range.
 #[derive(Clone, Copy, Debug, PartialEq, Eq)]
 pub struct Ratio {
     pub n: u64,
     pub d: u64,
+    ghost in_range: { (n ≤ most_term) × ((1 ≤ d) × (d ≤ most_term)) },
 }
 
 // d × distortion + n × rate.
