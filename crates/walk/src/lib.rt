@@ -60,7 +60,7 @@ pub fn total_up(t: &Checked, scratch: &[u8]) -> Totals
     sums
 }
 
-// The chosen sequence goes to the first bytes of the plan.
+// The chosen sequence goes to the first bytes of the plan. This and the next ask the sizes alone, and not checked tables, which would ask more.
 pub fn hand_over(scans: usize, settings: usize, scratch: &[u8], plan: &mut [u8])
     requires scans_le_most_scans { (scans ≤ most_scans) × ((settings ≤ most_settings) × ((scratch_need scans settings ≤ length scratch.now) × (scans ≤ length plan.old))) }
     requires by_index { (i : ℕ) → i < scans → get_or (chosen settings scans scratch.now) i 0 < settings }
