@@ -55,17 +55,6 @@ block_sound version front body rest k at long few number =
         ap (λ (l : List ℕ). part (512 * k) 508 (front ++ l)) (append_assoc body tail rest)
         ∙ part_middle front body (tail ++ rest) (512 * k) 508 at long
 
--- a block whose first four bytes hold another number is broken
-pub other_number : (version : ℕ) (file : List ℕ) (k : ℕ) {r : ℕ} → r ≡ number_at (512 * k) 4 file → (r ≡ k → ⊥) → true ≡ block_broken version file k
-unfolding block_broken
-other_number version file k e h = rw (ne_eqb _ _ (λ g. h (e ∙ g))) refl
-
--- where they hold its own, its check decides
-pub own_number : (version : ℕ) (file : List ℕ) (k : ℕ) {r x s : ℕ} → r ≡ number_at (512 * k) 4 file → r ≡ k → x ≡ number_at (512 * k + 508) 4 file
-    → s ≡ check_of version (part (512 * k) 508 file) → not (eqb x s) ≡ block_broken version file k
-unfolding block_broken
-own_number version file k e h g i = rw (sym e, eq-eqb _ _ h, sym g, sym i) refl
-
 -- a block is broken whose check is another than the one that is stored
 pub other_check : (version : ℕ) (file : List ℕ) (k : ℕ) → (number_at (512 * k + 508) 4 file ≡ check_of version (part (512 * k) 508 file) → ⊥)
     → block_broken version file k ≡ true

@@ -16,10 +16,7 @@ use tables::refusal::Refusal;
 fn neither_length(n: usize) -> bool
     ensures { result ≡ length_out n }
 {
-    if n == SHORT_FILE {
-        return false;
-    }
-    n != LONG_FILE
+    n != SHORT_FILE && n != LONG_FILE
 }
 
 // The first stage.
@@ -32,29 +29,26 @@ pub fn size(file: &[u8]) -> Stage
     Stage::Passed
 }
 
+#[tactic(auto, unfolding(crate::specs::Blocks::block_broken))]
 fn block_wrong(version: u64, file: &[u8], k: usize) -> bool
     requires { (k < 3) × (block_size * k + block_size ≤ length file.now) }
     ensures { result ≡ block_broken version file.now k }
 {
     let at = BLOCK * k;
-    if four(file, at) != k as u64 {
-        return true;
-    }
-    four(file, at + BODY) != check_of(version, file, at)
+    four(file, at) != k as u64 || four(file, at + BODY) != check_of(version, file, at)
 }
 
 // The second stage: the lowest block that is wrong, where the letters of block 0 choose the check of all.
+#[tactic(auto, using(crate::proofs::BlockLaws::found_block, crate::proofs::BlockLaws::no_block))]
 pub fn blocks(file: &[u8]) -> Stage
     requires { (block_size ≤ length file.now) × (length file.now ≤ long_file) }
     ensures { ended result ≡ found refusal.Block (bad_block file.now) }
 {
     let version = version_of(file);
-    let mut k = 0;
-    while k < file.len() / BLOCK {
+    for k in 0..file.len() / BLOCK {
         if block_wrong(version, file, k) {
             return Stage::Stopped(Refusal::Block(k as u64));
         }
-        k += 1;
     }
     Stage::Passed
 }

@@ -11,7 +11,6 @@ ghost use Rattle.checks.specs.Stages.{ended};
 use checks::range::outside;
 use checks::stage::{Stage, then, unless};
 use keys::cost::{Dist, Rate};
-use octets::cast::cell_to_number;
 use tables::common::common;
 use tables::law::no_law;
 use tables::limits::{MOST_CELL, MOST_SCANS, MOST_SETTINGS, MOST_TERM, MOST_TOTAL};
@@ -50,36 +49,26 @@ pub struct Faults {
 fn neither_of_two(x: u64) -> bool
     ensures { result ≡ neither_of_two x }
 {
-    if x == 0 {
-        return false;
-    }
-    x != 1
+    x != 0 && x != 1
 }
 
 fn either_of(a: bool, b: bool) -> bool
     ensures { result ≡ (a || b) }
 {
-    if a {
-        return true;
-    }
-    b
+    a || b
 }
 
+#[tactic(auto, unfolding(crate::specs::Rules::n_broken))]
 fn n_wrong(kind: u64, n: u64, d: u64) -> bool
     ensures { result ≡ n_broken kind n d }
 {
     if kind != 0 {
         return n != 0;
     }
-    if MOST_TERM < n {
-        return true;
-    }
-    if outside(MOST_TERM, d) {
-        return false;
-    }
-    common(n, d) != 1
+    MOST_TERM < n || (!outside(MOST_TERM, d) && common(n, d) != 1)
 }
 
+#[tactic(auto, unfolding(crate::specs::Rules::d_broken))]
 fn d_wrong(kind: u64, d: u64) -> bool
     ensures { result ≡ d_broken kind d }
 {
@@ -92,23 +81,14 @@ fn d_wrong(kind: u64, d: u64) -> bool
 fn rate_wrong(rate: u64, budget: u64) -> bool
     ensures { result ≡ rate_broken rate budget }
 {
-    if MOST_TOTAL < rate {
-        return true;
-    }
-    budget < rate
+    MOST_TOTAL < rate || budget < rate
 }
 
 // Where some weight is not 1 the distortion is a weighted sum, and a cell of a scan of weight 0 may be above it.
 fn peak_wrong(weighted: u64, peak: u64, distortion: u64) -> bool
     ensures { result ≡ peak_broken weighted peak distortion }
 {
-    if cell_to_number(MOST_CELL) < peak {
-        return true;
-    }
-    if weighted != 0 {
-        return false;
-    }
-    distortion < peak
+    u64::from(MOST_CELL) < peak || (weighted == 0 && distortion < peak)
 }
 
 fn floor_wrong(kind: u64, floor: u64, distortion: u64) -> bool
