@@ -1,5 +1,5 @@
 -- Sums of bytes. Assumes nothing.
-use mathlib.Core.Path.{refl, ◌≡◌, ap, ◌∙◌}
+use mathlib.Core.Path.{refl, ◌≡◌, ap}
 use mathlib.Core.List.{List, [], ◌∷◌, ◌++◌}
 use mathlib.Core.Bool.{Bool, true, false, cond}
 use Prim.Native.Nat.{ℕ, zero, suc, ◌+◌, ◌*◌, ◌-◌, ◌/◌, ◌%◌, ◌≤◌, ◌<◌}

@@ -1,10 +1,9 @@
 // The letters of block 0: those of either version, as fixed byte strings, and the version that a file's letters say.
-ghost use Rattle.std.specs.Prelude.{◌≡◌, not, ◌≤◌, length};
-ghost use Rattle.octets.specs.Bytes.{part};
-ghost use Rattle.blocks.specs.Differ.{differ};
+ghost use Rattle.std.specs.Prelude.{◌≡◌, ◌≤◌, length};
 ghost use Rattle.blocks.specs.Letters.{version_of};
 
-// The versions. Any other letters are of none.
+// The versions. Any other letters are of none. Numbers and no enum: a reader gives the version as a number, and the definitions of the file
+// format (`letters`, `version_of`, `check_of`) and the theorems over them take any.
 pub const QPL1: u64 = 1;
 
 pub const QPL2: u64 = 2;
