@@ -36,7 +36,7 @@ fn block_wrong(version: u64, file: &[u8], k: usize) -> bool
 }
 
 // The second stage: the lowest block that is wrong, where the letters of block 0 choose the check of all.
-#[tactic(auto, using(crate::proofs::BlockLaws::found_block, crate::proofs::BlockLaws::no_block))]
+#[tactic(auto, using(crate::proofs::FoundLaws::found_none), unfolding(crate::specs::Blocks::bad_block))]
 pub fn blocks(file: &[u8]) -> Result<(), Refusal>
     requires { (block_size ≤ length file.now) × (length file.now ≤ long_file) }
     ensures { ended result ≡ found refusal.Block (bad_block file.now) }
