@@ -98,7 +98,11 @@ says_yes = answered (1 ∷ [])
 abbrev pub says_no : Reply
 says_no = answered (0 ∷ [])
 
-abbrev pub fits_reply : Result Bool Refusal → Reply
+-- what the call answers, in code
+abbrev pub FitsAnswer : Type 0
+FitsAnswer = Result Bool Refusal
+
+abbrev pub fits_reply : FitsAnswer → Reply
 fits_reply (Ok true) = says_yes
 fits_reply (Ok false) = says_no
 fits_reply (Err r) = refused r
