@@ -7,7 +7,7 @@ ghost use Rattle.keys.specs.OneKey.{Beside, Raised, Weighed};
 use tables::limits::MOST_TOTAL;
 
 // A fraction: its common divisor, its lowest terms n/d, and a fraction up/down just above it.
-#[derive(Clone, Copy)]
+#[derive(Clone, Copy, Debug, PartialEq, Eq)]
 pub struct Terms {
     pub g: u64,
     pub n: u64,
@@ -56,7 +56,7 @@ fn steps(x: u64, y: u64) -> u64
 }
 
 // One number for a distortion and a rate: a × distortion + b × rate.
-#[derive(Clone, Copy)]
+#[derive(Clone, Copy, Debug, PartialEq, Eq)]
 pub struct Weights {
     pub a: u64,
     pub b: u64,

@@ -6,7 +6,4 @@ use Rattle.best.proofs.TraceLaws.{Along}
 use Rattle.best.proofs.trace.retrace.Given as goal
 
 abbrev pub invariant-loop-i : goal.invariant-loop-i
-invariant-loop-i l = (l.i ≤ l.scans) × ((l.size ≡ l.settings * l.width) × Along l.scans l.settings l.width l.left l.rates l.initial.choices l.choices l.p l.b l.i)
-
-abbrev pub decreases-loop-i : goal.decreases-loop-i
-decreases-loop-i l = l.scans - l.i
+invariant-loop-i l = (l.i ≤ l.t.scans) × ((l.size ≡ l.t.settings * l.width) × Along l.t.scans l.t.settings l.width l.left l.t.rates l.initial.choices l.choices l.p l.b l.i)
