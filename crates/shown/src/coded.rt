@@ -1,6 +1,4 @@
 // Cells in codes, a byte for each.
-ghost use Rattle.std.specs.Prelude.{◌<◌};
-
 use crate::input::bytes;
 use std::io;
 use std::io::Read;

@@ -2,7 +2,7 @@
 //
 // Every cell is shown: a run of cells that are as they were filled is "k", how many, and a full stop; a run of forbidden rates is "f", how many,
 // and a full stop; a run of zeros is "z", how many, and a full stop; any other is shown cell by cell.
-ghost use Rattle.std.specs.Prelude.{◌*◌, ◌<◌, ◌≤◌, length};
+ghost use Rattle.std.specs.Prelude.{◌<◌};
 
 use crate::answer::put_marked;
 use std::io;
@@ -38,18 +38,6 @@ fn digit(x: u8) -> u8
     if x < 10 { b'0' + x } else { b'a' + (x - 10) }
 }
 
-// At most 64 bytes, two digits each.
-fn put_part<W: Write>(out: &mut W, bytes: &[u8]) -> io::Result<()>
-    requires { length bytes.now ≤ 64 }
-{
-    let mut text = [0u8; 128];
-    for (i, x) in bytes.iter().enumerate() {
-        text[2 * i] = digit(x / 16);
-        text[2 * i + 1] = digit(x % 16);
-    }
-    out.write_all(&text[..2 * bytes.len()])
-}
-
 // Byte i of a buffer is 1 and (7i + from) modulo 251, never zero; shown by its two hexadecimal digits.
 impl Cell for u8 {
     fn filled(i: usize, from: usize) -> u8 {
@@ -65,7 +53,12 @@ impl Cell for u8 {
 
     fn put_each<W: Write>(out: &mut W, cells: &[u8]) -> io::Result<()> {
         for part in cells.chunks(64) {
-            put_part(out, part)?;
+            let mut text = [0u8; 128];
+            for (i, x) in part.iter().enumerate() {
+                text[2 * i] = digit(x / 16);
+                text[2 * i + 1] = digit(x % 16);
+            }
+            out.write_all(&text[..2 * part.len()])?;
         }
         Ok(())
     }
