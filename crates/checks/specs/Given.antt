@@ -17,6 +17,10 @@ table_in t = table t.scans t.settings t.law t.rates.now t.distortions.now t.weig
 abbrev pub planning_in : Checked → Problem
 planning_in t = planning (table_in t)
 
+-- what was asked of a call whose tables have passed
+abbrev pub asked_in : Checked → (plan scratch : ℕ) → Asked
+asked_in t plan scratch = asking t.scans t.settings t.law t.rates.now t.distortions.now t.weights.now plan scratch
+
 -- what has passed is what was lent
 pub record IsOf (lent : Tables) (t : Checked) : Type 0 where
   pub scans : t.scans ≡ lent.scans

@@ -53,7 +53,7 @@ pub any_run : (law p k : ℕ) → law ≡ 0 → SideBySide (law_of law) p k 0 k
 unfolding law_of
 any_run law p k e = rw e (record { order = omega arith; inside = omega arith; reached = λ q h l. (omega arith, h); allowed = λ q f t. tt })
 
-pub within_two_run : (law p k : ℕ) {from to : ℕ} → law ≡ 1 → p < k → from ≡ p - 2 → to ≡ min k (p + 3) → SideBySide (law_of law) p k from to
+pub within_two_run : (law p k : ℕ) {from to : ℕ} → law ≡ 1 → p < k → from ≡ p - 2 → to ≡ min (p + 3) k → SideBySide (law_of law) p k from to
 unfolding law_of
 within_two_run law p k e h f t = rw (e, f, t) (record {
   order = omega arith;
@@ -62,7 +62,7 @@ within_two_run law p k e h f t = rw (e, f, t) (record {
   allowed = λ q f t. (omega arith, omega arith);
 })
 
-pub two_coarser_run : (law p k : ℕ) {to : ℕ} → law ≡ 2 → to ≡ min k (p + 3) → SideBySide (law_of law) p k 0 to
+pub two_coarser_run : (law p k : ℕ) {to : ℕ} → law ≡ 2 → to ≡ min (p + 3) k → SideBySide (law_of law) p k 0 to
 unfolding law_of
 two_coarser_run law p k e t = rw (e, t) (record {
   order = omega arith;

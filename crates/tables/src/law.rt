@@ -32,7 +32,7 @@ pub fn run(law: u64, before: usize, settings: usize) -> Range<usize>
 {
     // Two finer, and the end of two coarser.
     let finest = before.saturating_sub(2);
-    let end = settings.min(before + 3);
+    let end = (before + 3).min(settings);
     match law {
         0 => 0..settings,
         1 => finest..end,
