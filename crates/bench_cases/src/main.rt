@@ -8,13 +8,17 @@
 
 mod cases;
 
+use cases::Room;
+use shown::turns::every;
 use std::io;
 
 fn main(rt: HostRuntime) -> io::Result<()> {
     let mut input = rt.stdin();
-    let mut output = rt.stdout();
-    let mut piece = [0u8; 4096];
-    let mut numbers = [0u32; 8196];
-    let mut out = [0u8; 8704];
-    cases::every_case(&mut input, &mut output, &mut piece, &mut numbers, &mut out)
+    let mut out = rt.stdout();
+    let mut room = Room {
+        piece: [0; 4096],
+        numbers: [0; 8196],
+        lines: [0; 8704],
+    };
+    every(|| room.case(&mut input, &mut out))
 }

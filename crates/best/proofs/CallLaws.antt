@@ -1,7 +1,7 @@
 -- What a call that has passed its checks knows, and how it goes on from its start. Assumes nothing.
 use Rattle.promise.specs.Answers.{PlanAnswer}
 use Rattle.std.specs.Prelude.{Ok, Err}
-use mathlib.Core.Path.{◌≡◌, refl, sym, ap}
+use mathlib.Core.Path.{◌≡◌, refl, sym}
 use mathlib.Core.List.{List}
 use Prim.Native.Nat.{ℕ, ◌+◌, ◌≤◌}
 use native.Mathlib.Omega.{arith}

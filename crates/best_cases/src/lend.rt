@@ -1,12 +1,10 @@
 // Groups of calls: the tables and the weights are made once, and each call gets them with its three buffers filled anew.
-use crate::show::put_planned;
 use best::plan::best_plan;
-use shown::buffer::{fill, put_buffer};
-use shown::coded::made;
-use shown::input::{least, word};
-use shown::number::end_line;
-use shown::table::{fill_table, put_whole};
-use shown::weights::{cells_source, count_weights, made_weights};
+use promise::PlanAnswer;
+use shown::answer::{end_line, put_answer};
+use shown::group::{Group, Origin, Tables};
+use shown::input::{number, place};
+use shown::lent::{fill, put_lent};
 use std::io;
 use std::io::{Read, Write};
 
@@ -15,170 +13,85 @@ const PLAN_FROM: usize = 13;
 
 const CHOICES_FROM: usize = 100;
 
-const TOTALS_FROM: u32 = 2000000000;
+const TOTALS_FROM: usize = 2000000000;
 
-// The numbers that every call of a group takes.
-#[derive(Clone, Copy)]
-struct Case {
-    scans: u64,
-    settings: u64,
-    law: u64,
-}
-
-// A buffer as the call left it.
-fn put_plan<W: Write>(out: &mut W, plan: &[u8]) -> io::Result<()> {
-    out.write_all(b"p")?;
-    put_buffer(out, plan, PLAN_FROM)
-}
-
-fn put_choices<W: Write>(out: &mut W, choices: &[u8]) -> io::Result<()> {
-    out.write_all(b"s")?;
-    put_buffer(out, choices, CHOICES_FROM)
-}
-
-fn put_cells<W: Write>(out: &mut W, totals: &[u32]) -> io::Result<()> {
-    out.write_all(b"t")?;
-    put_whole(out, totals, TOTALS_FROM)
+// What is lent, from group to group.
+#[derive(Drop)]
+pub struct Room<'a> {
+    pub rates: &'a mut [u32],
+    pub distortions: &'a mut [u32],
+    pub weights: &'a mut [u8],
+    pub plan: &'a mut [u8],
+    pub choices: &'a mut [u8],
+    pub totals: &'a mut [u32],
 }
 
 // One call.
 fn one<R: Read, W: Write>(
     input: &mut R,
     out: &mut W,
-    case: Case,
-    rates: &[u32],
-    distortions: &[u32],
-    weights: &[u8],
+    t: &Tables,
     plan: &mut [u8],
     choices: &mut [u8],
     totals: &mut [u32],
 ) -> io::Result<()> {
-    let budget = word(input)?;
+    let budget = number::<8>(input)?;
     fill(plan, PLAN_FROM);
     fill(choices, CHOICES_FROM);
-    fill_table(totals, TOTALS_FROM);
-    put_planned(
+    fill(totals, TOTALS_FROM);
+    let answer = match best_plan(
+        t.scans,
+        t.settings,
+        t.law,
+        budget,
+        t.rates,
+        t.distortions,
+        t.weights,
+        plan,
+        choices,
+        totals,
+    ) {
+        PlanAnswer::Planned(t) => Ok(t),
+        PlanAnswer::Refused(r) => Err(r),
+    };
+    put_answer(
         out,
-        best_plan(
-            case.scans,
-            case.settings,
-            case.law,
-            budget,
-            rates,
-            distortions,
-            weights,
-            plan,
-            choices,
-            totals,
-        ),
+        answer.map(|best| [best.rate.0, best.distortion.0, best.peak]),
     )?;
-    put_plan(out, plan)?;
-    put_choices(out, choices)?;
-    put_cells(out, totals)?;
+    put_lent(out, "p", plan, PLAN_FROM)?;
+    put_lent(out, "s", choices, CHOICES_FROM)?;
+    put_lent(out, "t", totals, TOTALS_FROM)?;
     end_line(out)
 }
 
-fn calls<R: Read, W: Write>(
-    input: &mut R,
-    out: &mut W,
-    case: Case,
-    count: u64,
-    rates: &[u32],
-    distortions: &[u32],
-    weights: &[u8],
-    plan: &mut [u8],
-    choices: &mut [u8],
-    totals: &mut [u32],
-) -> io::Result<()> {
-    let mut left = count;
-    while 0 < left {
+// One group; false where the input ends.
+pub fn group<R: Read, W: Write>(input: &mut R, out: &mut W, room: Room) -> io::Result<bool> {
+    let Some(origin) = Origin::new(number::<8>(input)?) else {
+        return Ok(false);
+    };
+    let Room {
+        rates,
+        distortions,
+        weights,
+        plan,
+        choices,
+        totals,
+    } = room;
+    let group = Group::read(input, origin, rates, distortions, weights)?;
+    let p = place::<8>(input, plan.len())?;
+    let s = place::<8>(input, choices.len())?;
+    let t = place::<8>(input, totals.len())?;
+    let count = number::<8>(input)?;
+    let tables = group.tables(input)?;
+    for _ in 0..count {
         one(
             input,
             out,
-            case,
-            rates,
-            distortions,
-            weights,
-            plan,
-            choices,
-            totals,
+            &tables,
+            &mut plan[..p],
+            &mut choices[..s],
+            &mut totals[..t],
         )?;
-        left -= 1;
     }
-    Ok(())
-}
-
-// One group; false where the input ends.
-fn group<R: Read, W: Write>(
-    input: &mut R,
-    out: &mut W,
-    rates: &mut [u32],
-    distortions: &mut [u32],
-    weights: &mut [u8],
-    plan: &mut [u8],
-    choices: &mut [u8],
-    totals: &mut [u32],
-) -> io::Result<bool> {
-    let source = word(input)?;
-    if source == 0 {
-        return Ok(false);
-    }
-    let case = Case {
-        scans: word(input)?,
-        settings: word(input)?,
-        law: word(input)?,
-    };
-    let r = least(word(input)?, rates.len());
-    let d = least(word(input)?, distortions.len());
-    let p = least(word(input)?, plan.len());
-    let s = least(word(input)?, choices.len());
-    let t = least(word(input)?, totals.len());
-    let count = word(input)?;
-    let w = count_weights(input, source, case.scans, weights.len())?;
-    let cells = cells_source(source);
-    made(input, cells, &mut rates[..r])?;
-    made(input, cells, &mut distortions[..d])?;
-    made_weights(input, source, &mut weights[..w])?;
-    calls(
-        input,
-        out,
-        case,
-        count,
-        &rates[..r],
-        &distortions[..d],
-        &weights[..w],
-        &mut plan[..p],
-        &mut choices[..s],
-        &mut totals[..t],
-    )?;
     Ok(true)
-}
-
-// A proved loop has to end, and nothing says that the input does. So it counts down from a number that no run uses up.
-pub fn every_group<R: Read, W: Write>(
-    input: &mut R,
-    out: &mut W,
-    rates: &mut [u32],
-    distortions: &mut [u32],
-    weights: &mut [u8],
-    plan: &mut [u8],
-    choices: &mut [u8],
-    totals: &mut [u32],
-) -> io::Result<()> {
-    let mut turns = u64::MAX;
-    while turns > 0
-        && group(
-            input,
-            out,
-            rates,
-            distortions,
-            weights,
-            plan,
-            choices,
-            totals,
-        )?
-    {
-        turns -= 1;
-    }
-    Ok(())
 }

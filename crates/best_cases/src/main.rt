@@ -10,8 +10,9 @@
 #![tactic(auto)]
 
 mod lend;
-mod show;
 
+use lend::{Room, group};
+use shown::turns::every;
 use std::io;
 
 // The tables and the weights as plan_cases has them; the plan, the choices and the totals of all cases, and some room past that.
@@ -24,14 +25,15 @@ fn main(rt: HostRuntime) -> io::Result<()> {
     let mut plan = [0u8; 2048];
     let mut choices = [0u8; 1049600];
     let mut totals = [0u32; 262400];
-    lend::every_group(
-        &mut input,
-        &mut out,
-        &mut rates,
-        &mut distortions,
-        &mut weights,
-        &mut plan,
-        &mut choices,
-        &mut totals,
-    )
+    every(|| {
+        let room = Room {
+            rates: &mut rates,
+            distortions: &mut distortions,
+            weights: &mut weights,
+            plan: &mut plan,
+            choices: &mut choices,
+            totals: &mut totals,
+        };
+        group(&mut input, &mut out, room)
+    })
 }

@@ -1,4 +1,5 @@
-// What a planning call is lent to plan on: its numbers, both tables and the weights, of any content and any length.
+// What a planning call is lent to plan on: its numbers, both tables and the weights, of any content and any length. Two tables side by side and
+// not one of pairs, for so the C surface lends them.
 
 #[derive(Clone, Copy)]
 pub struct Tables<'a> {

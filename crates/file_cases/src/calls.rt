@@ -1,125 +1,138 @@
 // The two calls, each with a buffer filled anew, and with what it answers and what the buffer holds then written out.
-ghost use Rattle.std.specs.Prelude.{◌≡◌, length};
-
 use crate::change::{fields, runs};
-use crate::feed::place;
-use crate::show::{put_read, put_written};
 use keys::cost::{Dist, Rate};
-use planfile::read::read_plan;
-use planfile::write::write_plan;
+use planfile::read::{PlanRead, ReadAnswer, read_plan};
+use planfile::write::{WriteAnswer, write_plan};
 use rules::Fields;
-use shown::buffer::{fill, put_buffer};
-use shown::input::byte;
-use shown::number::end_line;
+use shown::answer::{end_line, put_answer};
+use shown::input::{number, place};
+use shown::lent::{fill, put_lent};
 use std::io;
 use std::io::{Read, Write};
+use tables::refusal::Refusal;
 
 // Where the pattern of a buffer before a call starts.
 const FROM: usize = 13;
 
-// The buffer as the call left it, and the end of the line.
-fn put_lent<W: Write>(out: &mut W, lent: &[u8]) -> io::Result<()> {
-    out.write_all(b"b")?;
-    put_buffer(out, lent, FROM)?;
+// What stays from call to call: the file, the writer's settings and its fields, and the buffer that both are lent.
+#[derive(Drop)]
+pub struct Kept {
+    pub file: [u8; 4608],
+    pub given: [u8; 2048],
+    pub told: [u64; 12],
+    pub lent: [u8; 4608],
+}
+
+fn of_read(a: ReadAnswer) -> Result<PlanRead, Refusal> {
+    match a {
+        ReadAnswer::Read(p) => Ok(p),
+        ReadAnswer::Refused(r) => Err(r),
+    }
+}
+
+fn of_write(a: WriteAnswer) -> Result<u64, Refusal> {
+    match a {
+        WriteAnswer::Written(p) => Ok(p),
+        WriteAnswer::Refused(r) => Err(r),
+    }
+}
+
+// What is read of a plan: the fields that every version has, the version, and the mark of weights.
+fn numbers(read: PlanRead) -> [u64; 13] {
+    let f = read.fields;
+    [
+        f.scans,
+        f.settings,
+        f.law,
+        f.kind,
+        f.budget,
+        f.n,
+        f.d,
+        f.rate.0,
+        f.distortion.0,
+        f.peak,
+        f.floor.0,
+        read.version,
+        f.weighted,
+    ]
+}
+
+fn of_numbers(told: &[u64; 12]) -> Fields {
+    let [
+        scans,
+        settings,
+        law,
+        kind,
+        budget,
+        n,
+        d,
+        rate,
+        distortion,
+        peak,
+        floor,
+        weighted,
+    ] = *told;
+    Fields {
+        scans,
+        settings,
+        law,
+        kind,
+        budget,
+        n,
+        d,
+        rate: Rate(rate),
+        distortion: Dist(distortion),
+        peak,
+        floor: Dist(floor),
+        weighted,
+    }
+}
+
+// What a call answered, and what it left in the buffer.
+fn put_called<const N: usize, W: Write>(
+    out: &mut W,
+    answer: Result<[u64; N], Refusal>,
+    lent: &[u8],
+) -> io::Result<()> {
+    put_answer(out, answer)?;
+    put_lent(out, "b", lent, FROM)?;
     end_line(out)
 }
 
-fn asked<W: Write>(out: &mut W, file: &[u8], lent: &mut [u8]) -> io::Result<()> {
-    fill(lent, FROM);
-    put_read(out, read_plan(file, lent))?;
-    put_lent(out, lent)
-}
-
-fn read<R: Read, W: Write>(
-    input: &mut R,
-    out: &mut W,
-    file: &mut [u8],
-    lent: &mut [u8],
-) -> io::Result<()> {
-    runs(input, file)?;
-    let f = place(input, file.len())?;
-    let n = place(input, lent.len())?;
-    asked(out, &file[..f], &mut lent[..n])
-}
-
-fn told(f: &[u64]) -> Fields
-    requires { length f.now ≡ 12 }
-{
-    Fields {
-        scans: f[0],
-        settings: f[1],
-        law: f[2],
-        kind: f[3],
-        budget: f[4],
-        n: f[5],
-        d: f[6],
-        rate: Rate(f[7]),
-        distortion: Dist(f[8]),
-        peak: f[9],
-        floor: Dist(f[10]),
-        weighted: f[11],
+impl Kept {
+    fn read<R: Read, W: Write>(&mut self, input: &mut R, out: &mut W) -> io::Result<()> {
+        runs(input, &mut self.file)?;
+        let f = place::<2>(input, self.file.len())?;
+        let n = place::<2>(input, self.lent.len())?;
+        let file = &self.file[..f];
+        let lent = &mut self.lent[..];
+        let lent = &mut lent[..n];
+        fill(lent, FROM);
+        let answer = of_read(read_plan(file, lent));
+        put_called(out, answer.map(numbers), lent)
     }
-}
 
-fn wanted<W: Write>(out: &mut W, told: Fields, settings: &[u8], lent: &mut [u8]) -> io::Result<()> {
-    fill(lent, FROM);
-    put_written(out, write_plan(told, settings, lent))?;
-    put_lent(out, lent)
-}
-
-fn write<R: Read, W: Write>(
-    input: &mut R,
-    out: &mut W,
-    given: &mut [u8],
-    kept: &mut [u64],
-    lent: &mut [u8],
-) -> io::Result<()>
-    requires { length kept.old ≡ 12 }
-{
-    fields(input, kept)?;
-    runs(input, given)?;
-    let g = place(input, given.len())?;
-    let n = place(input, lent.len())?;
-    wanted(out, told(kept), &given[..g], &mut lent[..n])
-}
-
-// One call; false where there is none.
-fn call<R: Read, W: Write>(
-    input: &mut R,
-    out: &mut W,
-    file: &mut [u8],
-    given: &mut [u8],
-    kept: &mut [u64],
-    lent: &mut [u8],
-) -> io::Result<bool>
-    requires { length kept.old ≡ 12 }
-{
-    let which = byte(input)?;
-    if which == 1 {
-        read(input, out, file, lent)?;
-        return Ok(true);
+    fn write<R: Read, W: Write>(&mut self, input: &mut R, out: &mut W) -> io::Result<()> {
+        fields(input, &mut self.told)?;
+        runs(input, &mut self.given)?;
+        let g = place::<2>(input, self.given.len())?;
+        let n = place::<2>(input, self.lent.len())?;
+        let told = of_numbers(&self.told);
+        let given = &self.given[..g];
+        let lent = &mut self.lent[..];
+        let lent = &mut lent[..n];
+        fill(lent, FROM);
+        let answer = of_write(write_plan(told, given, lent));
+        put_called(out, answer.map(|length| [length]), lent)
     }
-    if which == 2 {
-        write(input, out, given, kept, lent)?;
-        return Ok(true);
-    }
-    Ok(false)
-}
 
-// A proved loop has to end, and nothing says that the input does. So it counts down from a number that no run uses up.
-pub fn every_call<R: Read, W: Write>(
-    input: &mut R,
-    out: &mut W,
-    file: &mut [u8],
-    given: &mut [u8],
-    kept: &mut [u64],
-    lent: &mut [u8],
-) -> io::Result<()>
-    requires { length kept.old ≡ 12 }
-{
-    let mut turns = u64::MAX;
-    while turns > 0 && call(input, out, file, given, kept, lent)? {
-        turns -= 1;
+    // One call; false where there is none.
+    pub fn call<R: Read, W: Write>(&mut self, input: &mut R, out: &mut W) -> io::Result<bool> {
+        match number::<1>(input)? {
+            1 => self.read(input, out)?,
+            2 => self.write(input, out)?,
+            _ => return Ok(false),
+        }
+        Ok(true)
     }
-    Ok(())
 }

@@ -10,25 +10,20 @@
 
 mod calls;
 mod change;
-mod feed;
-mod show;
 
+use calls::Kept;
+use shown::turns::every;
 use std::io;
 
 // A file and a buffer may be longer than any that the rules ask for. What is not yet given is zero.
 fn main(rt: HostRuntime) -> io::Result<()> {
     let mut input = rt.stdin();
     let mut out = rt.stdout();
-    let mut file = [0u8; 4608];
-    let mut given = [0u8; 2048];
-    let mut fields = [0u64; 12];
-    let mut lent = [0u8; 4608];
-    calls::every_call(
-        &mut input,
-        &mut out,
-        &mut file,
-        &mut given,
-        &mut fields,
-        &mut lent,
-    )
+    let mut kept = Kept {
+        file: [0; 4608],
+        given: [0; 2048],
+        told: [0; 12],
+        lent: [0; 4608],
+    };
+    every(|| kept.call(&mut input, &mut out))
 }

@@ -8,187 +8,148 @@ use filing::{average_fields, minmax_fields};
 use planfile::write::{WriteAnswer, write_plan};
 use planner::average::average_plan;
 use planner::minmax::minmax_plan;
-use promise::{AverageAnswer, MinmaxAnswer};
+use promise::{AverageAnswer, AveragePlan, MinmaxAnswer, MinmaxPlan};
 use rules::Fields;
-use shown::buffer::{fill, put_buffer};
-use shown::number::{end_line, put, put_refusal};
+use shown::answer::{end_line, put_answer, put_refusal};
+use shown::group::Tables;
+use shown::lent::{fill, put_lent};
 use std::io;
 use std::io::Write;
+use tables::refusal::Refusal;
 
 // Where the pattern of the file buffer before a call starts.
 const FROM: usize = 13;
 
-fn put_written<W: Write>(out: &mut W, answer: WriteAnswer) -> io::Result<()> {
-    match answer {
-        WriteAnswer::Written(length) => {
-            put(out, 0)?;
-            put(out, length)
-        }
-        WriteAnswer::Refused(r) => put_refusal(out, r),
+fn of_write(a: WriteAnswer) -> Result<u64, Refusal> {
+    match a {
+        WriteAnswer::Written(p) => Ok(p),
+        WriteAnswer::Refused(r) => Err(r),
+    }
+}
+
+fn of_minmax(a: MinmaxAnswer) -> Result<MinmaxPlan, Refusal> {
+    match a {
+        MinmaxAnswer::Planned(t) => Ok(t),
+        MinmaxAnswer::Refused(r) => Err(r),
+    }
+}
+
+fn of_average(a: AverageAnswer) -> Result<AveragePlan, Refusal> {
+    match a {
+        AverageAnswer::Planned(t) => Ok(t),
+        AverageAnswer::Refused(r) => Err(r),
     }
 }
 
 // The file of a plan, written to a buffer a little longer than needed.
-fn put_filed<W: Write>(out: &mut W, fields: Fields, plan: &[u8]) -> io::Result<()> {
+fn put_file<W: Write>(out: &mut W, fields: Fields, plan: &[u8]) -> io::Result<()> {
     let mut file = [0u8; 1029];
     fill(&mut file, FROM);
-    put_written(out, write_plan(fields, plan, &mut file))?;
-    out.write_all(b"b")?;
-    put_buffer(out, &file, FROM)?;
+    let written = of_write(write_plan(fields, plan, &mut file));
+    put_answer(out, written.map(|length| [length]))?;
+    put_lent(out, "b", &file, FROM)
+}
+
+// A planning call, by the fields of its plan, and the file of that.
+fn put_filed<W: Write, F: FnOnce(&mut [u8], &mut [u8]) -> Result<Fields, Refusal>>(
+    out: &mut W,
+    plan_fields: F,
+) -> io::Result<()>
+    requires { F.IsAlwaysCallable plan_fields }
+{
+    let mut plan = [0u8; 2];
+    let mut scratch = [0u8; 8];
+    match plan_fields(&mut plan, &mut scratch) {
+        Ok(fields) => put_file(out, fields, &plan)?,
+        Err(refusal) => put_refusal(out, refusal)?,
+    }
     end_line(out)
 }
 
-fn average<W: Write>(
-    out: &mut W,
-    scans: u64,
-    settings: u64,
-    law: u64,
-    budget: u64,
-    rates: &[u32],
-    distortions: &[u32],
-    weights: &[u8],
-) -> io::Result<()> {
-    let mut plan = [0u8; 2];
-    let mut scratch = [0u8; 8];
-    let answer = average_plan(
-        scans,
-        settings,
-        law,
-        budget,
-        rates,
-        distortions,
-        weights,
-        &mut plan,
-        &mut scratch,
-    );
-    match answer {
-        AverageAnswer::Planned(m) => put_filed(
-            out,
-            average_fields(scans, settings, law, budget, weights, m),
-            &plan,
-        ),
-        AverageAnswer::Refused(r) => {
-            put_refusal(out, r)?;
-            end_line(out)
-        }
-    }
+fn both<W: Write>(out: &mut W, t: &Tables, budget: u64) -> io::Result<()> {
+    put_filed(out, |plan, scratch| {
+        let answer = average_plan(
+            t.scans,
+            t.settings,
+            t.law,
+            budget,
+            t.rates,
+            t.distortions,
+            t.weights,
+            plan,
+            scratch,
+        );
+        of_average(answer).map(|m| average_fields(t.scans, t.settings, t.law, budget, t.weights, m))
+    })?;
+    put_filed(out, |plan, scratch| {
+        let answer = minmax_plan(
+            t.scans,
+            t.settings,
+            t.law,
+            budget,
+            t.rates,
+            t.distortions,
+            t.weights,
+            plan,
+            scratch,
+        );
+        of_minmax(answer).map(|m| minmax_fields(t.scans, t.settings, t.law, budget, t.weights, m))
+    })
 }
 
-fn minmax<W: Write>(
-    out: &mut W,
-    scans: u64,
-    settings: u64,
-    law: u64,
-    budget: u64,
-    rates: &[u32],
-    distortions: &[u32],
-    weights: &[u8],
-) -> io::Result<()> {
-    let mut plan = [0u8; 2];
-    let mut scratch = [0u8; 8];
-    let answer = minmax_plan(
-        scans,
-        settings,
-        law,
-        budget,
-        rates,
-        distortions,
-        weights,
-        &mut plan,
-        &mut scratch,
-    );
-    match answer {
-        MinmaxAnswer::Planned(m) => put_filed(
-            out,
-            minmax_fields(scans, settings, law, budget, weights, m),
-            &plan,
-        ),
-        MinmaxAnswer::Refused(r) => {
-            put_refusal(out, r)?;
-            end_line(out)
-        }
-    }
-}
+const T: Tables = Tables {
+    scans: 2,
+    settings: 2,
+    law: 0,
+    rates: &[10, 4, 8, 3, 9, 5],
+    distortions: &[2, 7, 3, 6, 4, 10],
+    weights: &[1, 1],
+};
 
-fn both<W: Write>(
-    out: &mut W,
-    scans: u64,
-    settings: u64,
-    law: u64,
-    budget: u64,
-    rates: &[u32],
-    distortions: &[u32],
-    weights: &[u8],
-) -> io::Result<()> {
-    average(
-        out,
-        scans,
-        settings,
-        law,
-        budget,
-        rates,
-        distortions,
-        weights,
-    )?;
-    minmax(
-        out,
-        scans,
-        settings,
-        law,
-        budget,
-        rates,
-        distortions,
-        weights,
-    )
-}
+const U: Tables = Tables {
+    scans: 1,
+    settings: 3,
+    law: 0,
+    rates: &[9, 6, 2],
+    distortions: &[0, 8, 10],
+    weights: &[1],
+};
 
-fn table_t<W: Write>(out: &mut W, law: u64, budget: u64, first: u8, second: u8) -> io::Result<()> {
-    let rates = [10u32, 4, 8, 3, 9, 5];
-    let distortions = [2u32, 7, 3, 6, 4, 10];
-    let weights = [first, second];
-    both(out, 2, 2, law, budget, &rates, &distortions, &weights)
-}
-
-fn table_u<W: Write>(out: &mut W, budget: u64) -> io::Result<()> {
-    let rates = [9u32, 6, 2];
-    let distortions = [0u32, 8, 10];
-    let weights = [1u8; 1];
-    both(out, 1, 3, 0, budget, &rates, &distortions, &weights)
-}
-
-fn table_v<W: Write>(out: &mut W, law: u64, budget: u64) -> io::Result<()> {
-    let rates = [
-        5u32, 5, 5, 5, 9, 9, 4, 1, 9, 9, 9, 9, 6, 9, 9, 9, 2, 9, 9, 9,
-    ];
-    let distortions = [
-        1u32, 1, 1, 1, 3, 3, 3, 3, 3, 3, 3, 3, 3, 3, 3, 3, 3, 3, 3, 3,
-    ];
-    let weights = [1u8; 2];
-    both(out, 2, 4, law, budget, &rates, &distortions, &weights)
-}
+const V: Tables = Tables {
+    scans: 2,
+    settings: 4,
+    law: 0,
+    rates: &[5, 5, 5, 5, 9, 9, 4, 1, 9, 9, 9, 9, 6, 9, 9, 9, 2, 9, 9, 9],
+    distortions: &[1, 1, 1, 1, 3, 3, 3, 3, 3, 3, 3, 3, 3, 3, 3, 3, 3, 3, 3, 3],
+    weights: &[1, 1],
+};
 
 fn main(rt: HostRuntime) -> io::Result<()> {
     let mut out = rt.stdout();
-    table_t(&mut out, 0, 8, 1, 1)?;
-    table_t(&mut out, 0, 9, 1, 1)?;
-    table_t(&mut out, 0, 12, 1, 1)?;
-    table_t(&mut out, 0, 13, 1, 1)?;
-    table_t(&mut out, 0, 17, 1, 1)?;
-    table_t(&mut out, 0, 18, 1, 1)?;
-    table_u(&mut out, 1)?;
-    table_u(&mut out, 7)?;
-    table_u(&mut out, 9)?;
-    table_v(&mut out, 0, 6)?;
-    table_v(&mut out, 1, 7)?;
-    table_v(&mut out, 1, 9)?;
-    table_v(&mut out, 2, 6)?;
-    table_v(&mut out, 2, 7)?;
-    table_v(&mut out, 3, 7)?;
-    table_t(&mut out, 1, 17, 2, 1)?;
-    table_t(&mut out, 1, 12, 2, 1)?;
-    table_t(&mut out, 1, 13, 0, 1)?;
-    table_t(&mut out, 1, 13, 1, 0)?;
-    table_t(&mut out, 1, 12, 1, 0)?;
-    table_t(&mut out, 1, 9, 0, 0)?;
-    table_t(&mut out, 1, 17, 1, 1)
+    for budget in [8, 9, 12, 13, 17, 18] {
+        both(&mut out, &T, budget)?;
+    }
+    for budget in [1, 7, 9] {
+        both(&mut out, &U, budget)?;
+    }
+    for (law, budget) in [(0, 6), (1, 7), (1, 9), (2, 6), (2, 7), (3, 7)] {
+        both(&mut out, &Tables { law, ..V }, budget)?;
+    }
+    for (budget, weights) in [
+        (17, [2, 1]),
+        (12, [2, 1]),
+        (13, [0, 1]),
+        (13, [1, 0]),
+        (12, [1, 0]),
+        (9, [0, 0]),
+        (17, [1, 1]),
+    ] {
+        let weighed = Tables {
+            law: 1,
+            weights: &weights,
+            ..T
+        };
+        both(&mut out, &weighed, budget)?;
+    }
+    Ok(())
 }

@@ -1,107 +1,43 @@
 // Groups of calls: the tables are made once for all calls of a group.
 use fits::call::{FitsAnswer, fits};
-use shown::coded::made;
-use shown::input::{least, word};
-use shown::number::{end_line, put, put_refusal};
+use shown::answer::{end_line, put_answer};
+use shown::group::{Group, Origin, Tables};
+use shown::input::number;
 use std::io;
 use std::io::{Read, Write};
+use tables::refusal::Refusal;
 
-// The numbers that every call of a group takes.
-#[derive(Clone, Copy)]
-struct Case {
-    scans: u64,
-    settings: u64,
-    law: u64,
-}
-
-fn put_answer<W: Write>(out: &mut W, answer: FitsAnswer) -> io::Result<()> {
-    match answer {
-        FitsAnswer::Yes => {
-            put(out, 0)?;
-            put(out, 1)
-        }
-        FitsAnswer::No => {
-            put(out, 0)?;
-            put(out, 0)
-        }
-        FitsAnswer::Refused(r) => put_refusal(out, r),
+fn answer(a: FitsAnswer) -> Result<bool, Refusal> {
+    match a {
+        FitsAnswer::Yes => Ok(true),
+        FitsAnswer::No => Ok(false),
+        FitsAnswer::Refused(r) => Err(r),
     }
 }
 
 // One call.
-fn one<R: Read, W: Write>(
-    input: &mut R,
-    out: &mut W,
-    case: Case,
-    rates: &[u32],
-    distortions: &[u32],
-) -> io::Result<()> {
-    let budget = word(input)?;
-    put_answer(
-        out,
-        fits(
-            case.scans,
-            case.settings,
-            case.law,
-            budget,
-            rates,
-            distortions,
-        ),
-    )?;
+fn one<R: Read, W: Write>(input: &mut R, out: &mut W, t: &Tables) -> io::Result<()> {
+    let budget = number::<8>(input)?;
+    let fit = answer(fits(t.scans, t.settings, t.law, budget, t.rates, t.distortions));
+    put_answer(out, fit.map(|yes| [u64::from(yes)]))?;
     end_line(out)
 }
 
-fn calls<R: Read, W: Write>(
-    input: &mut R,
-    out: &mut W,
-    case: Case,
-    count: u64,
-    rates: &[u32],
-    distortions: &[u32],
-) -> io::Result<()> {
-    let mut left = count;
-    while 0 < left {
-        one(input, out, case, rates, distortions)?;
-        left -= 1;
-    }
-    Ok(())
-}
-
 // One group; false where the input ends.
-fn group<R: Read, W: Write>(
+pub fn group<R: Read, W: Write>(
     input: &mut R,
     out: &mut W,
     rates: &mut [u32],
     distortions: &mut [u32],
 ) -> io::Result<bool> {
-    let source = word(input)?;
-    if source == 0 {
+    let Some(origin) = Origin::unweighed(number::<8>(input)?) else {
         return Ok(false);
-    }
-    let case = Case {
-        scans: word(input)?,
-        settings: word(input)?,
-        law: word(input)?,
     };
-    let r = least(word(input)?, rates.len());
-    let d = least(word(input)?, distortions.len());
-    let count = word(input)?;
-    made(input, source, &mut rates[..r])?;
-    made(input, source, &mut distortions[..d])?;
-    calls(input, out, case, count, &rates[..r], &distortions[..d])?;
-    Ok(true)
-}
-
-// A proved loop has to end, and nothing says that the input does. So it counts down from a number that no run uses up.
-pub fn every_group<R: Read, W: Write>(
-    input: &mut R,
-    out: &mut W,
-    rates: &mut [u32],
-    distortions: &mut [u32],
-) -> io::Result<()> {
-    let mut turns = u64::MAX;
-    while turns > 0 && group(input, out, rates, distortions)? {
-        turns -= 1;
+    let group = Group::read(input, origin, rates, distortions, &mut [])?;
+    let count = number::<8>(input)?;
+    let tables = group.tables(input)?;
+    for _ in 0..count {
+        one(input, out, &tables)?;
     }
-    Ok(())
+    Ok(true)
 }

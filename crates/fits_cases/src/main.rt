@@ -10,6 +10,8 @@
 
 mod lend;
 
+use lend::group;
+use shown::turns::every;
 use std::io;
 
 // The tables of all cases, and some room past that.
@@ -18,5 +20,5 @@ fn main(rt: HostRuntime) -> io::Result<()> {
     let mut out = rt.stdout();
     let mut rates = [0u32; 262144];
     let mut distortions = [0u32; 262144];
-    lend::every_group(&mut input, &mut out, &mut rates, &mut distortions)
+    every(|| group(&mut input, &mut out, &mut rates, &mut distortions))
 }

@@ -12,7 +12,7 @@ ghost use Rattle.legal.specs.Parts.{weight_limit, heavy_of, no_cell, RunWithin, 
 use tables::limits::{FORBIDDEN, MOST_CELL};
 use tables::refusal::Refusal;
 
-// No cell, in the place of how far into its run a cell stands.
+// No cell, in the place of how far into its run a cell stands. A number and no `Option`, which would put a branch into the loop over a run.
 const NONE: u32 = 4294967295;
 
 // What a cell is tested with, once for a run: its weight, but at least 1. So one product tells of the weighed distortion and of the plain one,

@@ -1,83 +1,63 @@
 // The two calls: what is lent is made, the call answers, and a line says what it answered and what it left.
-use crate::cells::made;
-use crate::show::{put_table, put_text};
+use crate::show::Show;
 use checks::stage::Stage;
 use exports::export::{ExportAnswer, export};
 use imports::import::import;
-use shown::buffer::{fill, put_buffer};
-use shown::input::{byte, four, least, read_full, word};
-use shown::number::{end_line, put, put_refusal};
-use shown::table::fill_table;
+use shown::answer::{end_line, put_answer};
+use shown::input::{bytes, number, place, read_full};
+use shown::lent::{fill, put_lent};
+use shown::source::Source;
 use std::io;
 use std::io::{Read, Write};
+use tables::refusal::Refusal;
 
 // Where the cells of the two tables before an import start, and the pattern of the text before an export.
-const RATES_FROM: u32 = 2000000000;
+const RATES_FROM: usize = 2000000000;
 
-const DISTORTIONS_FROM: u32 = 3000000000;
+const DISTORTIONS_FROM: usize = 3000000000;
 
 const TEXT_FROM: usize = 13;
+
+// What is lent, from call to call.
+#[derive(Drop)]
+pub struct Room<'a> {
+    pub rates: &'a mut [u32],
+    pub distortions: &'a mut [u32],
+    pub text: &'a mut [u8],
+    pub scratch: &'a mut [u8],
+}
 
 // What every call says: how to show what it leaves, and the sizes of the tables.
 #[derive(Clone, Copy)]
 struct Case {
-    show: u64,
+    show: Show,
     scans: u64,
     settings: u64,
 }
 
-fn put_imported<W: Write>(out: &mut W, stage: Stage) -> io::Result<()> {
-    match stage {
-        Stage::Passed => put(out, 0),
-        Stage::Stopped(r) => put_refusal(out, r),
+fn of_import(s: Stage) -> Result<(), Refusal> {
+    match s {
+        Stage::Passed => Ok(()),
+        Stage::Stopped(r) => Err(r),
     }
 }
 
-fn put_exported<W: Write>(out: &mut W, answer: ExportAnswer) -> io::Result<()> {
-    match answer {
-        ExportAnswer::Exported(length) => {
-            put(out, 0)?;
-            put(out, length)
-        }
-        ExportAnswer::Refused(r) => put_refusal(out, r),
+fn of_export(a: ExportAnswer) -> Result<u64, Refusal> {
+    match a {
+        ExportAnswer::Exported(n) => Ok(n),
+        ExportAnswer::Refused(r) => Err(r),
     }
-}
-
-fn put_scratch<W: Write>(out: &mut W, scratch: &[u8], from: usize) -> io::Result<()> {
-    out.write_all(b"s")?;
-    put_buffer(out, scratch, from)
-}
-
-// An import of this text, into tables and scratch filled anew.
-fn import_lent<W: Write>(
-    out: &mut W,
-    case: Case,
-    from: usize,
-    text: &[u8],
-    rates: &mut [u32],
-    distortions: &mut [u32],
-    scratch: &mut [u8],
-) -> io::Result<()> {
-    fill_table(rates, RATES_FROM);
-    fill_table(distortions, DISTORTIONS_FROM);
-    fill(scratch, from);
-    put_imported(
-        out,
-        import(case.scans, case.settings, text, rates, distortions, scratch),
-    )?;
-    put_table(out, b"r", case.show, rates, RATES_FROM)?;
-    put_table(out, b"d", case.show, distortions, DISTORTIONS_FROM)?;
-    put_scratch(out, scratch, from)?;
-    end_line(out)
 }
 
 // A piece of the input takes the place of what is kept there, as far as there is room.
 fn piece<R: Read>(input: &mut R, text: &mut [u8]) -> io::Result<()> {
-    let start = least(four(input)?, text.len());
-    let end = start + least(four(input)?, text.len() - start);
-    read_full(input, &mut text[start..end])
+    let start = place::<4>(input, text.len())?;
+    let length = place::<4>(input, text.len() - start)?;
+    read_full(input, &mut text[start..start + length])?;
+    Ok(())
 }
 
+// An import of a text, into tables and scratch filled anew.
 fn import_call<R: Read, W: Write>(
     input: &mut R,
     out: &mut W,
@@ -87,38 +67,35 @@ fn import_call<R: Read, W: Write>(
     text: &mut [u8],
     scratch: &mut [u8],
 ) -> io::Result<()> {
-    let s = least(four(input)?, scratch.len());
-    let from = byte(input)? as usize;
-    let t = least(four(input)?, text.len());
+    let s = place::<4>(input, scratch.len())?;
+    let from = number::<1>(input)? as usize;
+    let t = place::<4>(input, text.len())?;
     piece(input, text)?;
-    import_lent(
-        out,
-        case,
-        from,
+    let scratch = &mut scratch[..s];
+    fill(rates, RATES_FROM);
+    fill(distortions, DISTORTIONS_FROM);
+    fill(scratch, from);
+    let answer = of_import(import(
+        case.scans,
+        case.settings,
         &text[..t],
         rates,
         distortions,
-        &mut scratch[..s],
-    )
-}
-
-// An export of these tables, to a text filled anew.
-fn export_lent<W: Write>(
-    out: &mut W,
-    case: Case,
-    rates: &[u32],
-    distortions: &[u32],
-    text: &mut [u8],
-) -> io::Result<()> {
-    fill(text, TEXT_FROM);
-    put_exported(
-        out,
-        export(case.scans, case.settings, rates, distortions, text),
-    )?;
-    put_text(out, b"t", case.show, text, TEXT_FROM)?;
+        scratch,
+    ));
+    put_answer(out, answer.map(|_| []))?;
+    case.show.put(out, "r", rates, RATES_FROM)?;
+    case.show.put(out, "d", distortions, DISTORTIONS_FROM)?;
+    put_lent(out, "s", scratch, from)?;
     end_line(out)
 }
 
+// The next cell of the input.
+fn cell<R: Read>(input: &mut R) -> io::Result<u32> {
+    Ok(u32::from_le_bytes(bytes::<4>(input)?))
+}
+
+// An export of tables, whose cells are given four bytes each, to a text filled anew.
 fn export_call<R: Read, W: Write>(
     input: &mut R,
     out: &mut W,
@@ -127,81 +104,50 @@ fn export_call<R: Read, W: Write>(
     distortions: &mut [u32],
     text: &mut [u8],
 ) -> io::Result<()> {
-    let t = least(four(input)?, text.len());
-    let source = byte(input)?;
-    made(input, source, rates)?;
-    made(input, source, distortions)?;
-    export_lent(out, case, rates, distortions, &mut text[..t])
+    let t = place::<4>(input, text.len())?;
+    let source = Source::from(number::<1>(input)?);
+    source.make(input, rates, cell)?;
+    source.make(input, distortions, cell)?;
+    let text = &mut text[..t];
+    fill(text, TEXT_FROM);
+    let answer = of_export(export(case.scans, case.settings, rates, distortions, text));
+    put_answer(out, answer.map(|length| [length]))?;
+    case.show.put(out, "t", text, TEXT_FROM)?;
+    end_line(out)
 }
 
-// What both calls say first, and then the one or the other.
-fn one<R: Read, W: Write>(
-    input: &mut R,
-    out: &mut W,
-    which: u64,
-    rates: &mut [u32],
-    distortions: &mut [u32],
-    text: &mut [u8],
-    scratch: &mut [u8],
-) -> io::Result<()> {
-    let case = Case {
-        show: byte(input)?,
-        scans: word(input)?,
-        settings: word(input)?,
+// Which call it is.
+#[derive(Clone, Copy)]
+enum Which {
+    Import,
+    Export,
+}
+
+// One call; false where there is none. What both say comes first, and then the one or the other.
+pub fn call<R: Read, W: Write>(input: &mut R, out: &mut W, room: Room) -> io::Result<bool> {
+    let which = match number::<1>(input)? {
+        1 => Which::Import,
+        2 => Which::Export,
+        _ => return Ok(false),
     };
-    let r = least(four(input)?, rates.len());
-    let d = least(four(input)?, distortions.len());
-    if which == 1 {
-        import_call(
-            input,
-            out,
-            case,
-            &mut rates[..r],
-            &mut distortions[..d],
-            text,
-            scratch,
-        )
-    } else {
-        export_call(
-            input,
-            out,
-            case,
-            &mut rates[..r],
-            &mut distortions[..d],
-            text,
-        )
+    let Room {
+        rates,
+        distortions,
+        text,
+        scratch,
+    } = room;
+    let case = Case {
+        show: Show::from(number::<1>(input)?),
+        scans: number::<8>(input)?,
+        settings: number::<8>(input)?,
+    };
+    let r = place::<4>(input, rates.len())?;
+    let d = place::<4>(input, distortions.len())?;
+    let rates = &mut rates[..r];
+    let distortions = &mut distortions[..d];
+    match which {
+        Which::Import => import_call(input, out, case, rates, distortions, text, scratch)?,
+        Which::Export => export_call(input, out, case, rates, distortions, text)?,
     }
-}
-
-// One call; false where there is none.
-fn call<R: Read, W: Write>(
-    input: &mut R,
-    out: &mut W,
-    rates: &mut [u32],
-    distortions: &mut [u32],
-    text: &mut [u8],
-    scratch: &mut [u8],
-) -> io::Result<bool> {
-    let which = byte(input)?;
-    if which != 1 && which != 2 {
-        return Ok(false);
-    }
-    one(input, out, which, rates, distortions, text, scratch)?;
     Ok(true)
-}
-
-// A proved loop has to end, and nothing says that the input does. So it counts down from a number that no run uses up.
-pub fn every_call<R: Read, W: Write>(
-    input: &mut R,
-    out: &mut W,
-    rates: &mut [u32],
-    distortions: &mut [u32],
-    text: &mut [u8],
-    scratch: &mut [u8],
-) -> io::Result<()> {
-    let mut turns = u64::MAX;
-    while turns > 0 && call(input, out, rates, distortions, text, scratch)? {
-        turns -= 1;
-    }
-    Ok(())
 }

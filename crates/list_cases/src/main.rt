@@ -4,27 +4,32 @@
 #![tactic(auto)]
 
 mod calls;
-mod cells;
 mod digest;
 mod show;
 
+use calls::{Room, call};
+use shown::turns::every;
 use std::io;
+
+// The cells of the longest table.
+const ROOM: usize = 262144;
 
 // The tables and scratch at their largest, and some room past that, so that longer ones can be lent too; and room for the longest text that
 // the cases have.
 fn main(rt: HostRuntime) -> io::Result<()> {
     let mut input = rt.stdin();
     let mut out = rt.stdout();
-    let mut rates = [0u32; cells::ROOM];
-    let mut distortions = [0u32; cells::ROOM];
+    let mut rates = [0u32; ROOM];
+    let mut distortions = [0u32; ROOM];
     let mut text = [0u8; 2097152];
-    let mut scratch = [0u8; 262144];
-    calls::every_call(
-        &mut input,
-        &mut out,
-        &mut rates,
-        &mut distortions,
-        &mut text,
-        &mut scratch,
-    )
+    let mut scratch = [0u8; ROOM];
+    every(|| {
+        let room = Room {
+            rates: &mut rates,
+            distortions: &mut distortions,
+            text: &mut text,
+            scratch: &mut scratch,
+        };
+        call(&mut input, &mut out, room)
+    })
 }

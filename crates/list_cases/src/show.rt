@@ -1,44 +1,43 @@
-// What a call left in a table or a text, each with the letter that says which it is before it and a space behind.
-//
-// It is shown whole, or by a digest: "c", the number, and a full stop.
-use crate::digest::{of_table, of_text};
-use shown::buffer::put_buffer;
-use shown::number::put_marked;
-use shown::table::put_whole;
+// What a call left in a table or a text.
+use crate::digest::digest;
+use shown::answer::put_marked;
+use shown::lent::{Cell, put_lent};
 use std::io;
 use std::io::Write;
 
-fn put_digest<W: Write>(out: &mut W, x: u64) -> io::Result<()> {
-    put_marked(out, b"c", x)?;
-    out.write_all(b" ")
+// How it is shown.
+#[derive(Clone, Copy)]
+pub enum Show {
+    Whole,
+    // "c", the digest, and a full stop
+    Digest,
 }
 
-// A table that was filled from `from`.
-pub fn put_table<W: Write>(
-    out: &mut W,
-    letter: &[u8],
-    show: u64,
-    table: &[u32],
-    from: u32,
-) -> io::Result<()> {
-    out.write_all(letter)?;
-    match show {
-        1 => put_digest(out, of_table(table)),
-        _ => put_whole(out, table, from),
+impl From<u64> for Show {
+    fn from(n: u64) -> Show {
+        match n {
+            1 => Show::Digest,
+            _ => Show::Whole,
+        }
     }
 }
 
-// A text that was filled with the pattern from `from`.
-pub fn put_text<W: Write>(
-    out: &mut W,
-    letter: &[u8],
-    show: u64,
-    text: &[u8],
-    from: usize,
-) -> io::Result<()> {
-    out.write_all(letter)?;
-    match show {
-        1 => put_digest(out, of_text(text)),
-        _ => put_buffer(out, text, from),
+impl Show {
+    // What was filled from `from`, behind the letter that says which it is.
+    pub fn put<T: Cell + Into<u32>, W: Write>(
+        self,
+        out: &mut W,
+        letter: &str,
+        lent: &[T],
+        from: usize,
+    ) -> io::Result<()> {
+        match self {
+            Show::Whole => put_lent(out, letter, lent, from),
+            Show::Digest => {
+                write!(out, "{letter}")?;
+                put_marked(out, "c", digest(lent))?;
+                write!(out, " ")
+            }
+        }
     }
 }

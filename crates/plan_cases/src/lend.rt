@@ -1,10 +1,9 @@
 // Groups of calls: the tables and the weights are made once, and each call gets them with both buffers filled anew.
-use crate::asks::{Case, ask};
-use shown::buffer::{fill, put_buffer};
-use shown::coded::made;
-use shown::input::{least, word};
-use shown::number::end_line;
-use shown::weights::{cells_source, count_weights, made_weights};
+use crate::ask::Ask;
+use shown::answer::end_line;
+use shown::group::{Group, Origin, Tables};
+use shown::input::{number, place};
+use shown::lent::{fill, put_lent};
 use std::io;
 use std::io::{Read, Write};
 
@@ -13,125 +12,52 @@ const PLAN_FROM: usize = 13;
 
 const SCRATCH_FROM: usize = 100;
 
-// A buffer as the call left it.
-fn put_plan<W: Write>(out: &mut W, plan: &[u8]) -> io::Result<()> {
-    out.write_all(b"p")?;
-    put_buffer(out, plan, PLAN_FROM)
-}
-
-fn put_scratch<W: Write>(out: &mut W, scratch: &[u8]) -> io::Result<()> {
-    out.write_all(b"s")?;
-    put_buffer(out, scratch, SCRATCH_FROM)
+// What is lent, from group to group.
+#[derive(Drop)]
+pub struct Room<'a> {
+    pub rates: &'a mut [u32],
+    pub distortions: &'a mut [u32],
+    pub weights: &'a mut [u8],
+    pub plan: &'a mut [u8],
+    pub scratch: &'a mut [u8],
 }
 
 // One call.
 fn one<R: Read, W: Write>(
     input: &mut R,
     out: &mut W,
-    case: Case,
-    rates: &[u32],
-    distortions: &[u32],
-    weights: &[u8],
+    tables: &Tables,
     plan: &mut [u8],
     scratch: &mut [u8],
 ) -> io::Result<()> {
-    let which = word(input)?;
-    let limit = word(input)?;
-    let other = word(input)?;
+    let ask = Ask::read(input)?;
     fill(plan, PLAN_FROM);
     fill(scratch, SCRATCH_FROM);
-    ask(
-        out,
-        which,
-        case,
-        limit,
-        other,
+    ask.put(out, tables, plan, scratch)?;
+    put_lent(out, "p", plan, PLAN_FROM)?;
+    put_lent(out, "s", scratch, SCRATCH_FROM)?;
+    end_line(out)
+}
+
+// One group; false where the input ends.
+pub fn group<R: Read, W: Write>(input: &mut R, out: &mut W, room: Room) -> io::Result<bool> {
+    let Some(origin) = Origin::new(number::<8>(input)?) else {
+        return Ok(false);
+    };
+    let Room {
         rates,
         distortions,
         weights,
         plan,
         scratch,
-    )?;
-    put_plan(out, plan)?;
-    put_scratch(out, scratch)?;
-    end_line(out)
-}
-
-fn calls<R: Read, W: Write>(
-    input: &mut R,
-    out: &mut W,
-    case: Case,
-    count: u64,
-    rates: &[u32],
-    distortions: &[u32],
-    weights: &[u8],
-    plan: &mut [u8],
-    scratch: &mut [u8],
-) -> io::Result<()> {
-    let mut left = count;
-    while 0 < left {
-        one(input, out, case, rates, distortions, weights, plan, scratch)?;
-        left -= 1;
+    } = room;
+    let group = Group::read(input, origin, rates, distortions, weights)?;
+    let p = place::<8>(input, plan.len())?;
+    let s = place::<8>(input, scratch.len())?;
+    let count = number::<8>(input)?;
+    let tables = group.tables(input)?;
+    for _ in 0..count {
+        one(input, out, &tables, &mut plan[..p], &mut scratch[..s])?;
     }
-    Ok(())
-}
-
-// One group; false where the input ends.
-fn group<R: Read, W: Write>(
-    input: &mut R,
-    out: &mut W,
-    rates: &mut [u32],
-    distortions: &mut [u32],
-    weights: &mut [u8],
-    plan: &mut [u8],
-    scratch: &mut [u8],
-) -> io::Result<bool> {
-    let source = word(input)?;
-    if source == 0 {
-        return Ok(false);
-    }
-    let case = Case {
-        scans: word(input)?,
-        settings: word(input)?,
-        law: word(input)?,
-    };
-    let r = least(word(input)?, rates.len());
-    let d = least(word(input)?, distortions.len());
-    let p = least(word(input)?, plan.len());
-    let s = least(word(input)?, scratch.len());
-    let count = word(input)?;
-    let w = count_weights(input, source, case.scans, weights.len())?;
-    let cells = cells_source(source);
-    made(input, cells, &mut rates[..r])?;
-    made(input, cells, &mut distortions[..d])?;
-    made_weights(input, source, &mut weights[..w])?;
-    calls(
-        input,
-        out,
-        case,
-        count,
-        &rates[..r],
-        &distortions[..d],
-        &weights[..w],
-        &mut plan[..p],
-        &mut scratch[..s],
-    )?;
     Ok(true)
-}
-
-// A proved loop has to end, and nothing says that the input does. So it counts down from a number that no run uses up.
-pub fn every_group<R: Read, W: Write>(
-    input: &mut R,
-    out: &mut W,
-    rates: &mut [u32],
-    distortions: &mut [u32],
-    weights: &mut [u8],
-    plan: &mut [u8],
-    scratch: &mut [u8],
-) -> io::Result<()> {
-    let mut turns = u64::MAX;
-    while turns > 0 && group(input, out, rates, distortions, weights, plan, scratch)? {
-        turns -= 1;
-    }
-    Ok(())
 }

@@ -6,16 +6,16 @@
 //     5, 6 and 7 are 1, 2 and 3 in a group that has weights of its own, and a group with any of the others is lent a 1 for each scan;
 //   N, Q, law, the lengths of the two tables and of the two buffers as they are lent, and how many calls follow;
 //   of a group with weights, how many are lent;
-//   the cells (coded.rt of shown);
-//   of a group with weights, these, a byte each (weights.rt of shown);
+//   the cells (coded.rt and stream.rt of shown);
+//   of a group with weights, these, a byte each;
 //   the calls, three numbers each: which (1 ceiling, 2 multiplier, 3 minmax, 4 average), X or n or B, and d.
 #![tactic(auto)]
 
-mod asks;
-mod feed;
+mod ask;
 mod lend;
-mod show;
 
+use lend::{Room, group};
+use shown::turns::every;
 use std::io;
 
 // The tables, the weights and the buffers at their largest, and some room past that, so that longer ones can be lent too.
@@ -27,13 +27,14 @@ fn main(rt: HostRuntime) -> io::Result<()> {
     let mut weights = [0u8; 2048];
     let mut plan = [0u8; 2048];
     let mut scratch = [0u8; 32768];
-    lend::every_group(
-        &mut input,
-        &mut out,
-        &mut rates,
-        &mut distortions,
-        &mut weights,
-        &mut plan,
-        &mut scratch,
-    )
+    every(|| {
+        let room = Room {
+            rates: &mut rates,
+            distortions: &mut distortions,
+            weights: &mut weights,
+            plan: &mut plan,
+            scratch: &mut scratch,
+        };
+        group(&mut input, &mut out, room)
+    })
 }

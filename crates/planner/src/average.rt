@@ -15,6 +15,7 @@ ghost use Rattle.promise.specs.Promise.{AveragePromise, IsAveragePlan, average_r
 use checks::checked::Checked;
 use checks::lent::Tables;
 use floor::answer;
+use keys::cost::Ratio;
 use promise::AveragePlan;
 use search::slopes::{Bracket, slopes};
 use seek::finish::finish;
@@ -35,15 +36,16 @@ fn average_that_fits(
     requires thrifty_totals { ThriftyTotals (planning_in t.now) budget lo }
     ensures { Delivered (IsAveragePlan (planning_in t.now) budget) t.now.scans t.now.settings plan.old scratch.old (average_reply (Ok result)) plan.new scratch.new }
 {
-    multiplier_pass(t, 0, 1, scratch);
+    let zero = Ratio { n: 0, d: 1 };
+    multiplier_pass(t, zero, scratch);
     let hi = total_up(t, scratch);
     if hi.rate.0 <= budget {
         let totals = finish(t, plan, scratch);
-        return answer(0, 1, budget, totals);
+        return answer(zero, budget, totals);
     }
     let s = slopes(t, budget, Bracket { lo, hi }, scratch);
     let totals = finish(t, plan, scratch);
-    answer(s.n, s.d, budget, totals)
+    answer(s, budget, totals)
 }
 
 // Where the checks have passed.

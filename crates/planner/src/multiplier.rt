@@ -8,6 +8,7 @@ use checks::checked::Checked;
 use checks::lent::Tables;
 use checks::range::multiplier_outside;
 use checks::stage::unless;
+use keys::cost::Ratio;
 use seek::finish::{close, finish};
 use seek::passes::multiplier_pass;
 use tables::refusal::Refusal;
@@ -24,7 +25,7 @@ fn sound_multiplier(
     requires { Sound (fourth_check n d) (asked_in t.now (length plan.old) (length scratch.old)) }
     ensures { MultiplierPromise (asked_in t.now (length plan.old) (length scratch.old)) n d plan.old scratch.old result plan.new scratch.new }
 {
-    if multiplier_pass(t, n, d, scratch) {
+    if multiplier_pass(t, Ratio { n, d }, scratch) {
         return Ok(finish(t, plan, scratch));
     }
     close(false, t.scans, t.settings, plan, scratch);

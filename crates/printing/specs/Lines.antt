@@ -1,11 +1,10 @@
 -- Document 01, "Bench tables": the lines that bench writes. Assumes nothing.
-use Rattle.promise.specs.Answers.{MinmaxAnswer, AverageAnswer}
-use Rattle.std.specs.Prelude.{Ok, Err}
-use Rattle.std.specs.Prelude.{cond, List, [], ◌∷◌, ◌++◌, ℕ, zero, suc, ◌+◌, ◌/◌, ◌%◌, eqb, ltb}
+use Rattle.std.specs.Prelude.{cond, Ok, Err, List, [], ◌∷◌, ◌++◌, ℕ, zero, suc, ◌+◌, ◌/◌, ◌%◌, eqb, ltb}
 use Rattle.tables.specs.Refusals.{number_of, carried_by}
 use Rattle.walk.specs.declared.Totals.{Totals}
 use Rattle.promise.specs.declared.AveragePlan.{AveragePlan}
 use Rattle.promise.specs.declared.MinmaxPlan.{MinmaxPlan}
+use Rattle.promise.specs.Answers.{MinmaxAnswer, AverageAnswer}
 use Rattle.printing.specs.declared.line.Said.{Said}
 use Rattle.printing.specs.declared.line.Said.TheVariants.{Average, Minmax, Refused}
 

@@ -1,5 +1,6 @@
 // The slopes between the last plan that fits and the last that does not, until one ties.
 ghost use Rattle.std.specs.Prelude.{◌≡◌, ◌+◌, ◌-◌, ◌*◌, ◌≤◌, ◌<◌, ◌^◌, eqb, length};
+ghost use Rattle.tables.specs.Limits.{most_total};
 ghost use Rattle.tables.specs.Tables.{scratch_need};
 ghost use Rattle.checks.specs.Given.{planning_in};
 ghost use Rattle.search.specs.Search.{Bracketed, SlopeOf, SlopeEnd, Narrowed};
@@ -18,7 +19,8 @@ pub struct Bracket {
 
 // How much distortion falls from lo to hi for how much rate.
 fn slope_of(at: Bracket) -> Ratio
-    requires { (at.hi.distortion.0 ≤ at.lo.distortion.0) × (at.lo.rate.0 < at.hi.rate.0) }
+    requires order { (at.hi.distortion.0 ≤ at.lo.distortion.0) × (at.lo.rate.0 < at.hi.rate.0) }
+    requires small { (at.lo.distortion.0 ≤ most_total) × (at.hi.rate.0 ≤ most_total) }
     ensures { SlopeOf at.lo at.hi result.n result.d }
 {
     Ratio {
@@ -28,13 +30,11 @@ fn slope_of(at: Bracket) -> Ratio
 }
 
 // Do the two cost the same at this multiplier?
-fn ties(a: Totals, b: Totals, n: u64, d: u64) -> bool
-    requires { (d * a.distortion.0 + n * a.rate.0 < 2 ^ 64) × (d * b.distortion.0 + n * b.rate.0 < 2 ^ 64) }
-    ensures { result ≡ eqb (d * a.distortion.0 + n * a.rate.0) (d * b.distortion.0 + n * b.rate.0) }
+fn ties(a: Totals, b: Totals, at: Ratio) -> bool
+    requires { (at.d * a.distortion.0 + at.n * a.rate.0 < 2 ^ 64) × (at.d * b.distortion.0 + at.n * b.rate.0 < 2 ^ 64) }
+    ensures { result ≡ eqb (at.d * a.distortion.0 + at.n * a.rate.0) (at.d * b.distortion.0 + at.n * b.rate.0) }
 {
-    let x = cost(a.rate, a.distortion, n, d);
-    let y = cost(b.rate, b.distortion, n, d);
-    x.0 == y.0
+    cost(a.rate, a.distortion, at.n, at.d) == cost(b.rate, b.distortion, at.n, at.d)
 }
 
 // A plan replaces the one on its side of the budget.
@@ -57,9 +57,9 @@ pub fn slopes(t: &Checked, budget: u64, start: Bracket, scratch: &mut [u8]) -> R
     let mut at = start;
     loop {
         let s = slope_of(at);
-        multiplier_pass(t, s.n, s.d, scratch);
+        multiplier_pass(t, s, scratch);
         let plan = total_up(t, scratch);
-        if ties(plan, at.lo, s.n, s.d) {
+        if ties(plan, at.lo, s) {
             return s;
         }
         at = narrowed(at, plan, budget);

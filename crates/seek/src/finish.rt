@@ -10,7 +10,7 @@ ghost use Rattle.seek.specs.Sought.{Closed, Finished};
 use checks::checked::Checked;
 use walk::{Totals, hand_over, total_up, wipe};
 
-// A sequence that was found is handed over, and scratch is wiped either way.
+// A sequence that was found is handed over, and scratch is wiped either way. It asks the sizes alone: checked tables would ask more of a caller.
 pub fn close(found: bool, scans: usize, settings: usize, plan: &mut [u8], scratch: &mut [u8])
     requires scans_le_most_scans { (scans ≤ most_scans) × ((settings ≤ most_settings) × ((scratch_need scans settings ≤ length scratch.old) × (scans ≤ length plan.old))) }
     requires i_bound { found ≡ true → (i : ℕ) → i < scans → get_or (chosen settings scans scratch.old) i 0 < settings }

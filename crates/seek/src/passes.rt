@@ -1,13 +1,13 @@
 // The two passes that the calls are made of: the least-rate plan under a ceiling, and the plan at a multiplier. Each says whether there is
 // one; its choices are then in scratch.
 ghost use Rattle.std.specs.Prelude.{◌≡◌, ◌≤◌, length};
-ghost use Rattle.tables.specs.Limits.{most_term};
 ghost use Rattle.tables.specs.Tables.{scratch_need};
 ghost use Rattle.checks.specs.Given.{planning_in};
 ghost use Rattle.keys.specs.OneKey.{Weighed};
 ghost use Rattle.seek.specs.Sought.{ThriftyPass, MultiplierPass, no_ceiling};
 
 use checks::checked::Checked;
+use keys::cost::Ratio;
 use keys::weigh::weigh;
 use least::Rule;
 use trellis::pass::pass;
@@ -31,11 +31,10 @@ pub fn thrifty_pass(t: &Checked, ceiling: u32, scratch: &mut [u8]) -> bool
 }
 
 // The weights of n/d as a rule with no ceiling.
-fn weighing(n: u64, d: u64) -> Rule
-    requires { (n ≤ most_term) × ((1 ≤ d) × (d ≤ most_term)) }
-    ensures { Weighed n d result.a result.b × (result.ceiling ≡ no_ceiling) }
+fn weighing(at: Ratio) -> Rule
+    ensures { Weighed at.n at.d result.a result.b × (result.ceiling ≡ no_ceiling) }
 {
-    let w = weigh(n, d);
+    let w = weigh(at);
     Rule {
         a: w.a as u32,
         b: w.b as u32,
@@ -43,10 +42,9 @@ fn weighing(n: u64, d: u64) -> Rule
     }
 }
 
-pub fn multiplier_pass(t: &Checked, n: u64, d: u64, scratch: &mut [u8]) -> bool
-    requires room { scratch_need t.now.scans t.now.settings ≤ length scratch.old }
-    requires n_le_most_term { (n ≤ most_term) × ((1 ≤ d) × (d ≤ most_term)) }
-    ensures { MultiplierPass (planning_in t.now) t.now.scans t.now.settings n d scratch.old scratch.new result }
+pub fn multiplier_pass(t: &Checked, at: Ratio, scratch: &mut [u8]) -> bool
+    requires { scratch_need t.now.scans t.now.settings ≤ length scratch.old }
+    ensures { MultiplierPass (planning_in t.now) t.now.scans t.now.settings at.n at.d scratch.old scratch.new result }
 {
-    pass(t, weighing(n, d), scratch)
+    pass(t, weighing(at), scratch)
 }

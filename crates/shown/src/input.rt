@@ -1,12 +1,13 @@
 // What arrives on a reader, as standard input, numbers low byte first; past its end they are 0.
-ghost use Rattle.std.specs.Prelude.{◌≤◌};
+ghost use Rattle.std.specs.Prelude.{◌≤◌, IfOk, length};
 
-use octets::cast::byte_to_number;
 use std::io;
 use std::io::Read;
 
-// Reads until the bytes are full or the input ends; what it did not reach stays as it is.
-pub fn read_full<R: Read>(input: &mut R, bytes: &mut [u8]) -> io::Result<()> {
+// Reads until the bytes are full or the input ends, and answers how many it reached; the others stay as they are.
+pub fn read_full<R: Read>(input: &mut R, bytes: &mut [u8]) -> io::Result<usize>
+    ensures { IfOk result (λ n. n ≤ length bytes.new) }
+{
     let mut done = 0;
     while done < bytes.len() {
         let n = input.read(&mut bytes[done..])?;
@@ -15,54 +16,36 @@ pub fn read_full<R: Read>(input: &mut R, bytes: &mut [u8]) -> io::Result<()> {
         }
         done += n;
     }
-    Ok(())
+    Ok(done)
 }
 
-// The next number of one byte.
-pub fn byte<R: Read>(input: &mut R) -> io::Result<u64> {
-    let mut b = [0u8; 1];
+// The next N bytes.
+pub fn bytes<const N: usize>(input: &mut impl Read) -> io::Result<[u8; N]> {
+    let mut b = [0u8; N];
     read_full(input, &mut b)?;
-    Ok(byte_to_number(b[0]))
+    Ok(b)
 }
 
-// Of two.
-pub fn pair<R: Read>(input: &mut R) -> io::Result<u64> {
-    let mut b = [0u8; 2];
-    read_full(input, &mut b)?;
-    Ok(byte_to_number(b[0]) | byte_to_number(b[1]) << 8)
-}
-
-// Of four.
-pub fn four<R: Read>(input: &mut R) -> io::Result<u64> {
-    let mut b = [0u8; 4];
-    read_full(input, &mut b)?;
-    Ok(
-        byte_to_number(b[0])
-            | byte_to_number(b[1]) << 8
-            | byte_to_number(b[2]) << 16
-            | byte_to_number(b[3]) << 24,
-    )
-}
-
-// Of eight.
-pub fn word<R: Read>(input: &mut R) -> io::Result<u64> {
+// The next number of N bytes.
+pub fn number<const N: usize>(input: &mut impl Read) -> io::Result<u64>
+    requires { N ≤ 8 }
+{
     let mut b = [0u8; 8];
-    read_full(input, &mut b)?;
-    let low = byte_to_number(b[0])
-        | byte_to_number(b[1]) << 8
-        | byte_to_number(b[2]) << 16
-        | byte_to_number(b[3]) << 24;
-    let high = byte_to_number(b[4])
-        | byte_to_number(b[5]) << 8
-        | byte_to_number(b[6]) << 16
-        | byte_to_number(b[7]) << 24;
-    Ok(low | high << 32)
+    read_full(input, &mut b[..N])?;
+    Ok(u64::from_le_bytes(b))
 }
 
 // The number, or the most that there is room for.
 pub fn least(x: u64, most: usize) -> usize
     ensures { result ≤ most }
 {
-    let n = x as usize;
-    if n < most { n } else { most }
+    (x as usize).min(most)
+}
+
+// The next number of N bytes that says how many or where, so far as there is room.
+pub fn place<const N: usize>(input: &mut impl Read, most: usize) -> io::Result<usize>
+    requires { N ≤ 8 }
+    ensures { IfOk result (λ n. n ≤ most) }
+{
+    Ok(least(number::<N>(input)?, most))
 }

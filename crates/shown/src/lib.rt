@@ -1,11 +1,12 @@
-// What test programs share: the numbers that they read, the tables and weights that they make, and what they show of a call: numbers, refusals,
-// every byte of a lent buffer, and every cell of a table.
+// What test programs share: the turns that they take, the numbers that they read, the tables and weights that they make, and what they show of a
+// call: its answer, every byte of a lent buffer, and every cell of a table.
 #![tactic(auto)]
 
-pub mod buffer;
+pub mod answer;
 pub mod coded;
+pub mod group;
 pub mod input;
-pub mod number;
+pub mod lent;
+pub mod source;
 pub mod stream;
-pub mod table;
-pub mod weights;
+pub mod turns;

@@ -1,60 +1,49 @@
 // A table by a generator: four numbers on standard input, its seed, base, span and forbid, stand for any count of cells.
-ghost use Rattle.std.specs.Prelude.{◌<◌};
-
-use crate::input::word;
+use crate::input::number;
 use std::io;
 use std::io::Read;
+use tables::limits::{FORBIDDEN, MOST_CELL};
 
-// The next number of the stream: the multiplier 48,271 modulo the prime 2^31 - 1.
-fn next(x: u64) -> u64
-    requires { x < 2147483648 }
-    ensures { result < 2147483647 }
-{
-    x * 48271 % 2147483647
+// The stream's numbers are below this prime, 2^31 - 1.
+const PRIME: u64 = 2147483647;
+
+// The next number of the stream.
+fn next(x: u32) -> u32 {
+    (u64::from(x) * 48271 % PRIME) as u32
 }
 
-fn rest(x: u64, span: u64) -> u64
-    requires { 0 < span }
-    ensures { result < span }
-{
-    x % span
+// What a generator makes of the numbers of its stream.
+#[derive(Clone, Copy)]
+struct Generator {
+    base: u64,
+    span: u64,
+    forbid: u64,
 }
 
-// One cell of the stream: forbidden where the number is a multiple of `forbid`, else `base` and the rest modulo `span` over it.
-fn drawn(x: u64, base: u64, span: u64, forbid: u64) -> u32 {
-    if 0 < forbid {
-        if x % forbid == 0 {
-            return 4294967295;
+impl Generator {
+    // Forbidden where the number is a multiple of `forbid`, else `base` and the rest modulo `span` over it.
+    fn cell(self, x: u64) -> u32 {
+        if 0 < self.forbid && x % self.forbid == 0 {
+            FORBIDDEN
+        } else if self.base <= u64::from(MOST_CELL) && 0 < self.span && self.span <= 1048576 {
+            (self.base + x % self.span) as u32
+        } else {
+            0
         }
-    }
-    if base <= 1048575 {
-        if 0 < span {
-            if span <= 1048576 {
-                return (base + rest(x, span)) as u32;
-            }
-        }
-    }
-    0
-}
-
-fn stream(table: &mut [u32], seed: u64, base: u64, span: u64, forbid: u64)
-    requires { seed < 2147483648 }
-{
-    let mut x = seed;
-    let mut i = 0;
-    while i < table.len() {
-        x = next(x);
-        table[i] = drawn(x, base, span, forbid);
-        i += 1;
     }
 }
 
 // The cells of a table, by the generator whose four numbers follow in the input.
 pub fn generated<R: Read>(input: &mut R, table: &mut [u32]) -> io::Result<()> {
-    let seed = word(input)? % 2147483647;
-    let base = word(input)?;
-    let span = word(input)?;
-    let forbid = word(input)?;
-    stream(table, seed, base, span, forbid);
+    let mut x = (number::<8>(input)? % PRIME) as u32;
+    let generator = Generator {
+        base: number::<8>(input)?,
+        span: number::<8>(input)?,
+        forbid: number::<8>(input)?,
+    };
+    for cell in table.iter_mut() {
+        x = next(x);
+        *cell = generator.cell(u64::from(x));
+    }
     Ok(())
 }

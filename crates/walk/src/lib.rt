@@ -21,40 +21,12 @@ pub struct Totals {
     pub peak: u64,
 }
 
-// What a cell says.
-fn rate_of(cell: u32) -> Rate
-    ensures { result.0 ≡ cell }
-{
-    Rate(u64::from(cell))
-}
-
-fn distortion_of(cell: u32) -> Dist
-    ensures { (result.0 ≡ cell) × (result.0 < 2 ^ 32) }
-{
-    Dist(u64::from(cell))
-}
-
 // The distortion that counts: a cell times the weight of its scan.
 fn weighed(weight: u64, cell: Dist) -> Dist
     requires { (weight < 256) × (cell.0 < 2 ^ 32) }
     ensures { result.0 ≡ weight * cell.0 }
 {
     Dist(weight * cell.0)
-}
-
-// Rates are added to rates, and distortions to distortions: the two meet in a cost alone.
-fn more_rate(a: Rate, b: Rate) -> Rate
-    requires { a.0 + b.0 < 2 ^ 64 }
-    ensures { result.0 ≡ a.0 + b.0 }
-{
-    Rate(a.0 + b.0)
-}
-
-fn more_distortion(a: Dist, b: Dist) -> Dist
-    requires { a.0 + b.0 < 2 ^ 64 }
-    ensures { result.0 ≡ a.0 + b.0 }
-{
-    Dist(a.0 + b.0)
 }
 
 // The totals of the chosen sequence, which is allowed.
@@ -72,14 +44,15 @@ pub fn total_up(t: &Checked, scratch: &[u8]) -> Totals
     for i in 0..t.scans {
         let q = read(scratch, t.settings, i, p);
         let at = number(t.settings as u64, i as u64, p as u64, q as u64) as usize;
-        let rate = more_rate(sums.rate, rate_of(t.rates[at]));
+        let rate = sums.rate + Rate::from(t.rates[at]);
         // The distortion takes what counts of a cell, and the peak the plain cell.
-        let cell = distortion_of(t.distortions[at]);
+        let plain = t.distortions[at];
+        let cell = Dist::from(plain);
         let weight = t.weights[i];
         let counts = weighed(u64::from(weight), cell);
         sums = Totals {
             rate,
-            distortion: more_distortion(sums.distortion, counts),
+            distortion: sums.distortion + counts,
             peak: sums.peak.max(cell.0),
         };
         p = q;
@@ -87,7 +60,7 @@ pub fn total_up(t: &Checked, scratch: &[u8]) -> Totals
     sums
 }
 
-// The chosen sequence goes to the first bytes of the plan.
+// The chosen sequence goes to the first bytes of the plan. This and the next ask the sizes alone, and not checked tables, which would ask more.
 pub fn hand_over(scans: usize, settings: usize, scratch: &[u8], plan: &mut [u8])
     requires scans_le_most_scans { (scans ≤ most_scans) × ((settings ≤ most_settings) × ((scratch_need scans settings ≤ length scratch.now) × (scans ≤ length plan.old))) }
     requires by_index { (i : ℕ) → i < scans → get_or (chosen settings scans scratch.now) i 0 < settings }

@@ -19,7 +19,7 @@ use Rattle.walk.proofs.WalkLaws.{Along, along_none, along_all, along_more, along
 use Rattle.tables.proofs.CellLaws.{cell_inside}
 use Rattle.checks.proofs.FitLaws.{fit_legal}
 use Rattle.walk.proofs.total_up.Goals as goal
-use Rattle.walk.proofs.total_up.Goals.{After-distortion_of-cell, After-number-at, After-rate_of, After-read-q, After-weighed-counts, In-loop-i}
+use Rattle.walk.proofs.total_up.Goals.{After-from, After-from-cell, After-number-at, After-read-q, After-weighed-counts, In-loop-i}
 
 -- what is left at scan i, its choice first
 left_at : (c : In-loop-i) →
@@ -74,13 +74,13 @@ pub bounds-t-at : goal.bounds-t-at
 bounds-t-at c = (inside (goal.at.bounds-t-at c).After-number-at).0
 
 -- what is read is the scan's rate
-rate_read : (c : After-rate_of) →
+rate_read : (c : After-from) →
     let a = c.args in
     let l = c.loop-i in
-    c.rate_of.result.0 ≡ get_or a.t.now.rates.now (cell a.t.now.settings l.i l.p (choice a.t.now.settings a.scratch.now l.i l.p)) 0
+    c.from.result.0 ≡ get_or a.t.now.rates.now (cell a.t.now.settings l.i l.p (choice a.t.now.settings a.scratch.now l.i l.p)) 0
 rate_read c =
     let e = rw c.read-q.ensures.0 at c.number-at.ensures in
-    c.rate_of.ensures ∙ rw e
+    c.from.ensures ∙ rw e
 
 -- the sums so far are small, and the rate with the scan at i
 sums_small : (c : In-loop-i) →
@@ -93,8 +93,8 @@ sums_small c =
     let h = along_small (table_small T (fit_legal {t = T} (fit_in c.args.t.now c.requires.room))) c.requires.fact (left_at c) in
     (omega (arith, h.0), omega (arith, h.1))
 
-pub more_rate-rate-requires : goal.more_rate-rate-requires
-more_rate-rate-requires c = rw (rate_read (goal.at.more_rate-rate-requires c).After-rate_of) (sums_small (goal.at.more_rate-rate-requires c).In-loop-i).0
+pub add-rate-requires : goal.add-rate-requires
+add-rate-requires c = rw (rate_read (goal.at.add-rate-requires c).After-from) (sums_small (goal.at.add-rate-requires c).In-loop-i).0
 
 pub offset_bounds-t-at-in-loop-i : goal.offset_bounds-t-at-in-loop-i
 offset_bounds-t-at-in-loop-i c = let h = (inside (goal.at.offset_bounds-t-at-in-loop-i c).After-number-at).1 in search rules
@@ -106,32 +106,32 @@ pub bounds-t-i : goal.bounds-t-i
 bounds-t-i c = omega (arith, (fit_in c.args.t.now c.requires.room).weights_long)
 
 pub weighed-counts-requires : goal.weighed-counts-requires
-weighed-counts-requires c = (omega (arith, c.from.ensures), c.distortion_of-cell.ensures.1)
+weighed-counts-requires c = (omega (arith, c.from-in-loop-i.ensures), omega (arith, c.from-cell.ensures))
 
 -- .. the scan's plain distortion
-distortion_read : (c : After-distortion_of-cell) →
+distortion_read : (c : After-from-cell) →
     let a = c.args in
     let l = c.loop-i in
-    c.distortion_of-cell.result.0 ≡ get_or a.t.now.distortions.now (cell a.t.now.settings l.i l.p (choice a.t.now.settings a.scratch.now l.i l.p)) 0
+    c.from-cell.result.0 ≡ get_or a.t.now.distortions.now (cell a.t.now.settings l.i l.p (choice a.t.now.settings a.scratch.now l.i l.p)) 0
 distortion_read c =
     let e = rw c.read-q.ensures.0 at c.number-at.ensures in
-    c.distortion_of-cell.ensures.0 ∙ rw e
+    c.from-cell.ensures ∙ rw e
 
 -- .. and what counts of it
 distortion_weighed : (c : After-weighed-counts) →
     let a = c.args in
     let l = c.loop-i in
     c.weighed-counts.result.0 ≡ get_or a.t.now.weights.now l.i 0 * get_or a.t.now.distortions.now (cell a.t.now.settings l.i l.p (choice a.t.now.settings a.scratch.now l.i l.p)) 0
-distortion_weighed c = c.weighed-counts.ensures ∙ rw (c.from.ensures, distortion_read (goal.at.After-weighed-counts c).After-distortion_of-cell) refl
+distortion_weighed c = c.weighed-counts.ensures ∙ rw (c.from-in-loop-i.ensures, distortion_read (goal.at.After-weighed-counts c).After-from-cell) refl
 
-pub more_distortion-requires : goal.more_distortion-requires
-more_distortion-requires c =
-    let cell = c.distortion_of-cell in
-    let weight = c.from in
+pub add-requires : goal.add-requires
+add-requires c =
+    let cell = c.from-cell in
+    let weight = c.from-in-loop-i in
     omega (
       arith,
-      (sums_small (goal.at.more_distortion-requires c).In-loop-i).1,
-      cell.ensures.1,
+      (sums_small (goal.at.add-requires c).In-loop-i).1,
+      cell.ensures,
       c.weighed-counts.ensures,
       mul-le-mul_right {m = weight.result} {n = 255} cell.result.0 (omega (arith, weight.ensures, c.type_inv.t)),
     )
@@ -139,11 +139,11 @@ more_distortion-requires c =
 pub loop-i-preserved : goal.loop-i-preserved
 loop-i-preserved c =
     let e = c.read-q.ensures.0 in
-    let r = rate_read (goal.at.loop-i-preserved c).After-rate_of in
+    let r = rate_read (goal.at.loop-i-preserved c).After-from in
     let x = distortion_weighed (goal.at.loop-i-preserved c).After-weighed-counts in
-    let y = distortion_read (goal.at.loop-i-preserved c).After-distortion_of-cell in
+    let y = distortion_read (goal.at.loop-i-preserved c).After-from-cell in
     let a = along_more (left_at (goal.at.loop-i-preserved c).In-loop-i)
-    (c.more_rate-rate.ensures ∙ rw r) (c.more_distortion.ensures ∙ rw x) (c.max.ensures ∙ rw y) in
+    (c.add-rate.ensures ∙ rw r) (c.add.ensures ∙ rw x) (c.max.ensures ∙ rw y) in
     (omega arith, setting (goal.at.loop-i-preserved c).After-read-q, rw (e, add-one) a)
 
 pub returns : goal.returns

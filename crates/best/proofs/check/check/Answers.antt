@@ -12,8 +12,8 @@ use Rattle.checks.specs.Checks.{when}
 use Rattle.checks.specs.Planning.{Asked}
 use Rattle.checks.specs.Given.{asked_of}
 use Rattle.checks.proofs.CheckLaws.{none_when}
-use Rattle.checks.proofs.PlanningLaws.{Fronted, front_refusal, front_same, buffer_refusal, front_stage, buffer_stage, cells_decide, fronted, sized}
-use Rattle.best.specs.Best.{budget_check, best_short}
+use Rattle.checks.proofs.PlanningLaws.{Fronted, front_refusal, front_same, front_stage, buffer_stage, cells_decide, fronted, sized}
+use Rattle.best.specs.Best.{budget_check}
 use Rattle.best.proofs.NeedLaws.{scan_small, choices_small}
 use Rattle.best.proofs.check.check.Goals as goal
 use Rattle.best.proofs.check.check.Goals.{In_ok-front, In_ok-unless, Start}

@@ -92,12 +92,18 @@ offset_bounds-t-at c = omega (arith, cell_in (goal.at.offset_bounds-t-at c).Afte
 pub bounds-t-at : goal.bounds-t-at
 bounds-t-at c = cell_in (goal.at.bounds-t-at c).After-number-at
 
+-- the setting that is stored is below Q
+below : (c : After-from-q) → c.from-q.result < c.args.t.now.settings
+below c =
+    let a = c.args in
+    rw (setting_is c) (setting_below a.t.now.scans a.t.now.settings a.width a.left a.t.now.rates.now a.choices.now c.requires.followable c.loop-i-test.true c.loop-i.invariant.1.1)
+
 pub store-requires : goal.store-requires
 store-requires c =
     let a = c.args in
     let l = c.loop-i in record {
       settings_le_most_settings = ((fit_in c.args.t.now c.requires.room.0).settings, (omega (arith, c.loop-i-test.true, (fit_in c.args.t.now c.requires.room.0).scans), l.invariant.1.1.few c.loop-i-test.true));
-      chosen_bound = (c.from-q.ensures.1, omega (arith, need_more a.t.now.scans a.t.now.settings l.i c.loop-i-test.true, (fit_in c.args.t.now c.requires.room.0).room, l.invariant.1.1.long));
+      chosen_bound = (omega (arith, below (goal.at.store-requires c).After-from-q, (fit_in c.args.t.now c.requires.room.0).settings), omega (arith, need_more a.t.now.scans a.t.now.settings l.i c.loop-i-test.true, (fit_in c.args.t.now c.requires.room.0).room, l.invariant.1.1.long));
     }
 
 -- the rate that is taken from what is left
@@ -105,11 +111,11 @@ rate_is : (c : After-store) →
     let a = c.args in
     let l = c.loop-i in
     let q = get_or (traced a.t.now.scans a.t.now.settings a.width a.left a.t.now.rates.now a.choices.now) l.i 0 in
-    (? ≡ rate_of a.t.now.settings a.t.now.rates.now l.i l.p q) × (rate_of a.t.now.settings a.t.now.rates.now l.i l.p q ≤ l.b)
+    (get_or a.t.now.rates.now c.number-at.result 0 ≡ rate_of a.t.now.settings a.t.now.rates.now l.i l.p q) × (rate_of a.t.now.settings a.t.now.rates.now l.i l.p q ≤ l.b)
 rate_is c =
     let a = c.args in
     let l = c.loop-i in (
-      rw (c.number-at.ensures, setting_is (goal.at.After-store c).After-from-q) at ?,
+      rw (c.number-at.ensures, setting_is (goal.at.After-store c).After-from-q) refl,
       rate_fits a.t.now.scans a.t.now.settings a.width a.left a.t.now.rates.now a.choices.now c.requires.followable c.loop-i-test.true l.invariant.1.1,
     )
 

@@ -18,10 +18,7 @@ abbrev problem : Start → Problem
 problem s = planning_in s.args.t.now
 
 pub multiplier_pass-requires : goal.multiplier_pass-requires
-multiplier_pass-requires c = record {
-  room = c.requires.room.0;
-  n_le_most_term = (omega arith, (omega arith, omega arith));
-}
+multiplier_pass-requires c = c.requires.room.0
 
 pub total_up-hi-requires : goal.total_up-hi-requires
 total_up-hi-requires c =
@@ -43,7 +40,6 @@ pub answer-requires : goal.answer-requires
 answer-requires c =
     let m = pass_finds {P = problem (goal.at.answer-requires c).Start} c.multiplier_pass.ensures c.requires.thrifty_totals.plan c.requires.thrifty_totals.thriftiest.one in
     record {
-      n_le_most_term = (omega arith, (omega arith, omega arith));
       rate_le_most_total = finished_small {P = problem (goal.at.answer-requires c).Start} (sums_small (law_of c.args.t.now.law) (fit_in c.args.t.now c.requires.room.0)) m.one c.finish-totals.ensures.totals;
       budget_bound = omega arith;
     }
@@ -79,7 +75,6 @@ pub answer-requires-2 : goal.answer-requires-2
 answer-requires-2 c =
     let e = c.slopes-s.ensures in
     let small = sums_small (law_of c.args.t.now.law) (fit_in c.args.t.now c.requires.room.0) in record {
-      n_le_most_term = (e.small_n, (e.ended.whole, e.small_d));
       rate_le_most_total = finished_small {P = problem (goal.at.answer-requires-2 c).Start} small e.ended.plan.one c.finish-totals-2.ensures.totals;
       budget_bound = slope_budget {P = problem (goal.at.answer-requires-2 c).Start} e (λ t a. (small t a).1);
     }

@@ -1,7 +1,6 @@
 -- `planner::multiplier::sound_multiplier` meets its contract.
 use Rattle.criteria.specs.Choice.{Problem}
 use Rattle.checks.specs.Given.{planning_in}
-use native.Mathlib.Omega.{arith}
 use Rattle.laws.proofs.Tests.{never}
 use Rattle.checks.proofs.PlanningLaws.{sound_fit, sound_plan, sound_further, multiplier_in}
 use Rattle.seek.proofs.SeekLaws.{fit_framed, room_framed}
@@ -13,11 +12,10 @@ abbrev problem : Start → Problem
 problem s = planning_in s.args.t.now
 
 pub multiplier_pass-requires : goal.multiplier_pass-requires
-multiplier_pass-requires c =
-    record {
-      room = (sound_fit c.requires).room;
-      n_le_most_term = omega (arith, multiplier_in {n = c.args.n} {d = c.args.d} (sound_further c.requires));
-    }
+multiplier_pass-requires c = (sound_fit c.requires).room
+
+pub invariant_of-multiplier_pass : goal.invariant_of-multiplier_pass
+invariant_of-multiplier_pass c = record { in_range = multiplier_in {n = c.args.n} {d = c.args.d} (sound_further c.requires) }
 
 pub finish-requires : goal.finish-requires
 finish-requires c =

@@ -6,4 +6,4 @@ use Rattle.seek.proofs.passes.multiplier_pass.Goals as goal
 
 pub returns : goal.returns
 returns c =
-    multiplier_passed (law_of c.args.t.now.law) (fit_in c.args.t.now c.requires.room) c.args.n c.args.d c.weighing.ensures.0 c.weighing.ensures.1 c.pass.ensures
+    multiplier_passed (law_of c.args.t.now.law) (fit_in c.args.t.now c.requires) c.args.at.n c.args.at.d c.weighing.ensures.0 c.weighing.ensures.1 c.pass.ensures

@@ -1,4 +1,4 @@
--- `shown::input::read_full` is safe and ends: each read that is not the last takes a byte, and no more than are left.
+-- `shown::input::read_full` meets its contract and ends: each read that is not the last takes a byte, and no more than are left.
 use Rattle.std.proofs.Common.{◌-◌, ◌≤◌, length}
 use Rattle.shown.proofs.input.read_full.Given as goal
 

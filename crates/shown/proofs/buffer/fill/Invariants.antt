@@ -1,9 +1,0 @@
--- `shown::buffer::fill` is safe and ends: the buffer keeps its length.
-use Rattle.std.proofs.Common.{◌-◌, ◌≤◌, length}
-use Rattle.shown.proofs.buffer.fill.Given as goal
-
-abbrev pub invariant-loop-i : goal.invariant-loop-i
-invariant-loop-i l = l.i ≤ length l.buffer
-
-abbrev pub decreases-loop-i : goal.decreases-loop-i
-decreases-loop-i l = length l.buffer - l.i

@@ -1,9 +1,0 @@
--- `shown::table::fill_table` is safe and ends: the table keeps its length.
-use Rattle.std.proofs.Common.{◌-◌, ◌≤◌, length}
-use Rattle.shown.proofs.table.fill_table.Given as goal
-
-abbrev pub invariant-loop-i : goal.invariant-loop-i
-invariant-loop-i l = l.i ≤ length l.table
-
-abbrev pub decreases-loop-i : goal.decreases-loop-i
-decreases-loop-i l = length l.table - l.i

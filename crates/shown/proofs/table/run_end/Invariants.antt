@@ -1,9 +1,0 @@
--- `shown::table::run_end` meets its contract and ends: it goes forward in the table.
-use Rattle.std.proofs.Common.{◌-◌, ◌≤◌, length}
-use Rattle.shown.proofs.table.run_end.Given as goal
-
-abbrev pub invariant-loop-i : goal.invariant-loop-i
-invariant-loop-i l = (l.start ≤ l.i) × (l.i ≤ length l.table)
-
-abbrev pub decreases-loop-i : goal.decreases-loop-i
-decreases-loop-i l = length l.table - l.i
