@@ -18,7 +18,7 @@ const DISTORTIONS_FROM: usize = 3000000000;
 
 const TEXT_FROM: usize = 13;
 
-// What is lent, from call to call.
+// Room for what is lent, from call to call; or so much of it as one call is lent.
 #[derive(Drop)]
 pub struct Room<'a> {
     pub rates: &'a mut [u32],
@@ -62,11 +62,14 @@ fn import_call<R: Read, W: Write>(
     input: &mut R,
     out: &mut W,
     case: Case,
-    rates: &mut [u32],
-    distortions: &mut [u32],
-    text: &mut [u8],
-    scratch: &mut [u8],
+    room: Room,
 ) -> io::Result<()> {
+    let Room {
+        rates,
+        distortions,
+        text,
+        scratch,
+    } = room;
     let s = place::<4>(input, scratch.len())?;
     let from = number::<1>(input)? as usize;
     let t = place::<4>(input, text.len())?;
@@ -100,10 +103,14 @@ fn export_call<R: Read, W: Write>(
     input: &mut R,
     out: &mut W,
     case: Case,
-    rates: &mut [u32],
-    distortions: &mut [u32],
-    text: &mut [u8],
+    room: Room,
 ) -> io::Result<()> {
+    let Room {
+        rates,
+        distortions,
+        text,
+        ..
+    } = room;
     let t = place::<4>(input, text.len())?;
     let source = Source::from(number::<1>(input)?);
     source.make(input, rates, cell)?;
@@ -143,11 +150,15 @@ pub fn call<R: Read, W: Write>(input: &mut R, out: &mut W, room: Room) -> io::Re
     };
     let r = place::<4>(input, rates.len())?;
     let d = place::<4>(input, distortions.len())?;
-    let rates = &mut rates[..r];
-    let distortions = &mut distortions[..d];
+    let room = Room {
+        rates: &mut rates[..r],
+        distortions: &mut distortions[..d],
+        text,
+        scratch,
+    };
     match which {
-        Which::Import => import_call(input, out, case, rates, distortions, text, scratch)?,
-        Which::Export => export_call(input, out, case, rates, distortions, text)?,
+        Which::Import => import_call(input, out, case, room)?,
+        Which::Export => export_call(input, out, case, room)?,
     }
     Ok(true)
 }

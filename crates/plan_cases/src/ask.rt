@@ -1,4 +1,5 @@
 // The four calls, each with what it answers written out.
+use crate::lend::Lent;
 use planner::average::average_plan;
 use planner::ceiling::ceiling_plan;
 use planner::minmax::minmax_plan;
@@ -63,13 +64,7 @@ impl Ask {
         })
     }
 
-    pub fn put<W: Write>(
-        self,
-        out: &mut W,
-        t: &Tables,
-        plan: &mut [u8],
-        scratch: &mut [u8],
-    ) -> io::Result<()> {
+    pub fn put<W: Write>(self, out: &mut W, t: &Tables, lent: &mut Lent) -> io::Result<()> {
         match self {
             Ask::Ceiling { ceiling } => {
                 let answer = ceiling_plan(
@@ -80,8 +75,8 @@ impl Ask {
                     t.rates,
                     t.distortions,
                     t.weights,
-                    plan,
-                    scratch,
+                    lent.plan,
+                    lent.scratch,
                 );
                 put_answer(out, of_plan(answer).map(totals))
             }
@@ -95,8 +90,8 @@ impl Ask {
                     t.rates,
                     t.distortions,
                     t.weights,
-                    plan,
-                    scratch,
+                    lent.plan,
+                    lent.scratch,
                 );
                 put_answer(out, of_plan(answer).map(totals))
             }
@@ -109,8 +104,8 @@ impl Ask {
                     t.rates,
                     t.distortions,
                     t.weights,
-                    plan,
-                    scratch,
+                    lent.plan,
+                    lent.scratch,
                 );
                 put_answer(
                     out,
@@ -131,8 +126,8 @@ impl Ask {
                     t.rates,
                     t.distortions,
                     t.weights,
-                    plan,
-                    scratch,
+                    lent.plan,
+                    lent.scratch,
                 );
                 put_answer(
                     out,
