@@ -1,5 +1,7 @@
 -- Document 02, [2]: "Prove demands 2 and 3 once over any law, a law being only a statement of which pairs it allows." What the two demands say
 -- under one law, of which a test is known and nothing else. Assumes nothing.
+use Rattle.promise.specs.Answers.{PlanAnswer, MinmaxAnswer, AverageAnswer}
+use Rattle.std.specs.Prelude.{Ok}
 use Rattle.std.specs.Prelude.{◌≡◌, Bool, List, ℕ, ◌≤◌, ◌<◌, ◌^◌, ltb, length, get_or}
 use Rattle.std.proofs.Math.Option.{none}
 use Rattle.criteria.specs.Choice.{UnderCeiling, InBudget}
@@ -7,12 +9,7 @@ use Rattle.tables.specs.declared.refusal.Refusal.TheVariants as refusal
 use Rattle.tables.specs.Law.{Law}
 use Rattle.checks.specs.Checks.{when}
 use Rattle.checks.specs.Planning.{Asked, asking_under, problem_of, fourth_check}
-use Rattle.promise.specs.declared.PlanAnswer.{PlanAnswer}
-use Rattle.promise.specs.declared.MinmaxAnswer.{MinmaxAnswer}
-use Rattle.promise.specs.declared.MinmaxAnswer.TheVariants as minmax_answer
 use Rattle.promise.specs.declared.MinmaxPlan.{MinmaxPlan}
-use Rattle.promise.specs.declared.AverageAnswer.{AverageAnswer}
-use Rattle.promise.specs.declared.AverageAnswer.TheVariants as average_answer
 use Rattle.promise.specs.declared.AveragePlan.{AveragePlan}
 use Rattle.promise.specs.Promise.{plan_reply, minmax_reply, average_reply, CeilingPromise, MultiplierPromise, MinmaxPromise, AveragePromise}
 use Rattle.promise.specs.Says.{SomeAnswer, SaysExactly, Answered}
@@ -67,7 +64,7 @@ pub record DemandsHold (law : Law) (test : ℕ → ℕ → Bool) : Type 0 where
       AnswersRight (asking_under lawless law N Q rates distortions weights (length plan) (length scratch)) plan scratch
   -- demand 3, of every average plan that is given
   pub proves : (lawless : Bool) (N Q : ℕ) (rates distortions weights plan scratch : List ℕ) (B : ℕ) {p s : List ℕ} (m : AveragePlan) →
-      AveragePromise (asking_under lawless law N Q rates distortions weights (length plan) (length scratch)) B plan scratch (average_answer.Planned m) p s →
+      AveragePromise (asking_under lawless law N Q rates distortions weights (length plan) (length scratch)) B plan scratch (Ok m) p s →
       Answered (asking_under lawless law N Q rates distortions weights (length plan) (length scratch)) B m plan p
   -- what is written keeps the law
   pub writes : (lawless : Bool) (f : Fields) (settings : List ℕ) (room : ℕ) → write_refusal_under lawless test f settings room ≡ none →
@@ -80,8 +77,8 @@ pub record DemandsHold (law : Law) (test : ℕ → ℕ → Bool) : Type 0 where
       IsPlansFile lawless law test file
   -- and every plan that is given with a budget has a file
   pub files_average : (lawless : Bool) (N Q : ℕ) (rates distortions weights plan scratch : List ℕ) (B number : ℕ) {p s : List ℕ} (m : AveragePlan) →
-      AveragePromise (asking_under lawless law N Q rates distortions weights (length plan) (length scratch)) B plan scratch (average_answer.Planned m) p s →
+      AveragePromise (asking_under lawless law N Q rates distortions weights (length plan) (length scratch)) B plan scratch (Ok m) p s →
       number < 256 → B < 2 ^ 64 → HasFile lawless test (average_fields N Q number B weights m) p
   pub files_minmax : (lawless : Bool) (N Q : ℕ) (rates distortions weights plan scratch : List ℕ) (B number : ℕ) {p s : List ℕ} (m : MinmaxPlan) →
-      MinmaxPromise (asking_under lawless law N Q rates distortions weights (length plan) (length scratch)) B plan scratch (minmax_answer.Planned m) p s →
+      MinmaxPromise (asking_under lawless law N Q rates distortions weights (length plan) (length scratch)) B plan scratch (Ok m) p s →
       number < 256 → B < 2 ^ 64 → HasFile lawless test (minmax_fields N Q number B weights m) p

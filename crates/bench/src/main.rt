@@ -10,7 +10,7 @@ use std::io;
 use std::io::{Read, Write};
 
 // Reads until that is enough, or the input ends; where a read fails, its error is what comes back, and the numbers are those so far.
-// A proved loop has to end, and nothing says that the input does. So it counts down from a number that no run uses up.
+// A proved loop has to end, and nothing says that the input does. So it counts up to a number that no run uses up.
 fn read_text<R: Read>(input: &mut R, numbers: &mut [u32]) -> io::Result<State>
     requires { 8196 ≤ length numbers.old }
     ensures read { IfOk result (λ s. Got numbers.new s) }
@@ -18,14 +18,15 @@ fn read_text<R: Read>(input: &mut R, numbers: &mut [u32]) -> io::Result<State>
 {
     let mut piece = [0u8; 4096];
     let mut s = reading::fresh();
-    let mut turns = u64::MAX;
-    while turns > 0 && !workbench::enough(s, numbers) {
+    for _ in 0..u64::MAX {
+        if workbench::enough(s, numbers) {
+            break;
+        }
         let got = input.read(&mut piece)?;
         if got == 0 {
-            return Ok(s);
+            break;
         }
         s = reading::feed(s, &piece[..got], numbers);
-        turns -= 1;
     }
     Ok(s)
 }

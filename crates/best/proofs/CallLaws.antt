@@ -1,5 +1,7 @@
 -- What a call that has passed its checks knows, and how it goes on from its start. Assumes nothing.
-use mathlib.Core.Path.{◌≡◌, refl, sym, ap}
+use Rattle.promise.specs.Answers.{PlanAnswer}
+use Rattle.std.specs.Prelude.{Ok, Err}
+use mathlib.Core.Path.{◌≡◌, refl, sym}
 use mathlib.Core.List.{List}
 use Prim.Native.Nat.{ℕ, ◌+◌, ◌≤◌}
 use native.Mathlib.Omega.{arith}
@@ -21,11 +23,7 @@ use Rattle.walk.specs.declared.Totals.{Totals}
 use Rattle.walk.specs.Walked.{TotalsOf, total_values}
 use Rattle.seek.specs.Sought.{Framed}
 use Rattle.seek.specs.Started.{StartedAs, start_reply, fits, none_allowed, none_fits}
-use Rattle.seek.specs.declared.start.Started.{Started}
-use Rattle.seek.specs.declared.start.Started.TheVariants as started
 use Rattle.seek.proofs.SeekLaws.{framed_on, framed_none}
-use Rattle.promise.specs.declared.PlanAnswer.{PlanAnswer}
-use Rattle.promise.specs.declared.PlanAnswer.TheVariants as plan_answer
 use Rattle.promise.specs.Promise.{unsound, planned, no_sequence, none_within, totals}
 use Rattle.promise.proofs.Moves.{scratch_moves}
 use Rattle.within.specs.Rows.{AllPut}
@@ -68,21 +66,21 @@ values_are h = rw (h.rate, h.distortion, h.peak)
 module _ {a : Asked} {B : ℕ} {plan choices cells : List ℕ} (sound : BestSound a B (length cells)) where
   -- 8 or 9, with nothing past the choices of a pass changed
   refused_start : {choices' : List ℕ} {o : Reply} (r : Refusal) → length choices ≡ a.scratch → StartedAs (problem_of a) a.N a.Q B choices choices' o → o ≡ refused r →
-      SoughtBest a B plan choices cells (plan_answer.Refused r) plan choices' cells
+      SoughtBest a B plan choices cells (Err r) plan choices' cells
   refused_start r l (fits t f) e = absurd (answered_or_refused r e)
   refused_start r l (none_allowed n w) e =
       no_sequence sound n (sym e) refl (framed_wider (need_inside a.N a.Q B) (cleared_framed (omega (arith, (ready sound).fit.room)) w), framed_none cells)
   refused_start r l (none_fits n w) e =
       none_within sound n (sym e) refl (framed_wider (need_inside a.N a.Q B) (cleared_framed (omega (arith, (ready sound).fit.room)) w), framed_none cells)
 
-  pub started_refused : {choices' : List ℕ} {st : Started} {r : Refusal} → length choices ≡ a.scratch → StartedAs (problem_of a) a.N a.Q B choices choices' (start_reply st) →
-      st ≡ started.Refused r → SoughtBest a B plan choices cells (plan_answer.Refused r) plan choices' cells
-  started_refused {r = r} l h e = refused_start r l h (ap start_reply e)
+  pub started_refused : {choices' : List ℕ} (r : Refusal) → length choices ≡ a.scratch → StartedAs (problem_of a) a.N a.Q B choices choices' (start_reply (Err r)) →
+      SoughtBest a B plan choices cells (Err r) plan choices' cells
+  started_refused r l h = refused_start r l h refl
 
   -- a plan, from where the start left the choices
   pub started_given : {middle choices' cells' plan' : List ℕ} {t : Totals} → Framed (scratch_need a.N a.Q) choices middle →
       BestGiven (problem_of a) a.N B plan t plan' → BothFramed a.N a.Q B middle cells choices' cells' →
-      SoughtBest a B plan choices cells (plan_answer.Planned t) plan' choices' cells'
+      SoughtBest a B plan choices cells (Ok t) plan' choices' cells'
   started_given {t = t} f g h =
       planned sound g.settings (total_values t) (g.is_best, values_are g.totals) refl g.handed (framed_on (framed_wider (need_inside a.N a.Q B) f) h.0, h.1)
 

@@ -1,4 +1,5 @@
 -- Document 02, [6], "The true best for short series": the call's checks, what it borrows and what it promises. Assumes nothing.
+use Rattle.promise.specs.Answers.{PlanAnswer}
 use Rattle.std.specs.Prelude.{◌≡◌, Bool, ◌||◌, List, ℕ, ◌+◌, ◌*◌, ltb, length}
 use Rattle.std.proofs.Math.Option.{Option}
 use Rattle.criteria.specs.Choice.{Problem, InBudget, TrueBest}
@@ -7,7 +8,6 @@ use Rattle.tables.specs.declared.refusal.Refusal.TheVariants as refusal
 use Rattle.tables.specs.Limits.{most_short_scans, most_short_budget}
 use Rattle.checks.specs.Checks.{when}
 use Rattle.checks.specs.Planning.{Asked, UnsoundBy, SoundBy, problem_of}
-use Rattle.promise.specs.declared.PlanAnswer.{PlanAnswer}
 use Rattle.promise.specs.Promise.{PromiseOver, cleared, totals, plan_reply}
 
 -- "scratch is N × Q × (B + 1) bytes for choices": the part of one scan, and of all

@@ -1,4 +1,5 @@
 -- What the parts of the call leave each other. No promise cites it. Assumes nothing.
+use Rattle.promise.specs.Answers.{PlanAnswer}
 use Rattle.std.specs.Prelude.{◌≡◌, List, ◌++◌, ℕ, ◌+◌, ◌-◌, ◌≤◌, ◌<◌, length, get_or, drop}
 use Rattle.criteria.specs.Choice.{Problem, InBudget, TrueBest}
 use Rattle.tables.specs.Series.{total}
@@ -10,7 +11,6 @@ use Rattle.trellis.specs.Choices.{chosen}
 use Rattle.seek.specs.Sought.{Framed}
 use Rattle.within.specs.Ways.{path}
 use Rattle.within.specs.Filled.{choice_at}
-use Rattle.promise.specs.declared.PlanAnswer.{PlanAnswer}
 use Rattle.promise.specs.Promise.{PromiseOver, plan_reply}
 use Rattle.best.specs.Best.{choices_need, totals_need, BestUnsound, BestSound, IsBestPlan}
 

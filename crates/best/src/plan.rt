@@ -2,193 +2,86 @@
 ghost use Rattle.std.specs.Prelude.{List, ℕ, ◌≤◌, length};
 ghost use Rattle.criteria.specs.Choice.{InBudget};
 ghost use Rattle.tables.specs.Limits.{most_short_budget};
-ghost use Rattle.tables.specs.Tables.{table, planning};
-ghost use Rattle.checks.specs.Fit.{Fit};
-ghost use Rattle.checks.specs.Planning.{asking};
+ghost use Rattle.tables.specs.Tables.{scratch_need};
+ghost use Rattle.checks.specs.Given.{asked_of, asked_in, planning_in};
 ghost use Rattle.best.specs.Best.{choices_need, totals_need, BestSound, BestPromise};
 ghost use Rattle.best.specs.Traced.{BestGiven, BothFramed, SoughtBest};
 
 use crate::check::check;
 use crate::trace::{least_left, retrace};
-use checks::stage::Stage;
+use checks::checked::Checked;
+use checks::lent::Tables;
 use octets::numbers::put_zeros;
-use promise::PlanAnswer;
 use seek::finish::finish;
-use seek::start::{Started, start};
+use seek::start::start;
+use tables::refusal::Refusal;
 use walk::Totals;
 use within::fill::fill;
 use within::row::put_all;
 
 // Where some sequence is within the budget: the totals of the true best, which is handed over.
 fn best_that_fits(
-    scans: usize,
-    settings: usize,
-    law: u64,
+    t: &Checked,
     budget: usize,
-    rates: &[u32],
-    distortions: &[u32],
-    weights: &[u8],
     plan: &mut [u8],
     choices: &mut [u8],
     cells: &mut [u32],
 ) -> Totals
-    requires fit { Fit scans settings rates.now distortions.now weights.now (length choices.old) × ((scans ≤ length plan.old) × (budget ≤ most_short_budget)) }
-    requires budget_in_bounds { (choices_need scans settings budget ≤ length choices.old) × (totals_need settings budget ≤ length cells.old) }
-    requires by_index { (t : List ℕ) × InBudget (planning (table scans settings law rates.now distortions.now weights.now)) budget t }
-    ensures best_given { BestGiven (planning (table scans settings law rates.now distortions.now weights.now)) scans budget plan.old result plan.new }
-    ensures both_framed { BothFramed scans settings budget choices.old cells.old choices.new cells.new }
+    requires room { (scratch_need t.now.scans t.now.settings ≤ length choices.old) × ((t.now.scans ≤ length plan.old) × (budget ≤ most_short_budget)) }
+    requires budget_in_bounds { (choices_need t.now.scans t.now.settings budget ≤ length choices.old) × (totals_need t.now.settings budget ≤ length cells.old) }
+    requires by_index { (s : List ℕ) × InBudget (planning_in t.now) budget s }
+    ensures best_given { BestGiven (planning_in t.now) t.now.scans budget plan.old result plan.new }
+    ensures both_framed { BothFramed t.now.scans t.now.settings budget choices.old cells.old choices.new cells.new }
 {
     let width = budget + 1;
-    let row = fill(
-        scans,
-        settings,
-        law,
-        width,
-        rates,
-        distortions,
-        weights,
-        choices,
-        cells,
-    );
+    let row = fill(t, width, choices, cells);
     let left = least_left(cells, row, width);
-    retrace(
-        scans,
-        settings,
-        width,
-        left,
-        rates,
-        distortions,
-        weights,
-        choices,
-    );
-    finish(
-        scans,
-        settings,
-        law,
-        rates,
-        distortions,
-        weights,
-        plan,
-        choices,
-    )
+    retrace(t, width, left, choices);
+    finish(t, plan, choices)
 }
 
 // Where the checks have passed, but for what is to be zero: a plan that fits, or a look past the budget. Totals within it cannot tell 8 from 9.
 fn sought(
-    scans: usize,
-    settings: usize,
-    law: u64,
+    t: &Checked,
     budget: usize,
-    rates: &[u32],
-    distortions: &[u32],
-    weights: &[u8],
     plan: &mut [u8],
     choices: &mut [u8],
     cells: &mut [u32],
-) -> PlanAnswer
-    requires { BestSound (asking scans settings law rates.now distortions.now weights.now (length plan.old) (length choices.old)) budget (length cells.old) }
-    ensures { SoughtBest (asking scans settings law rates.now distortions.now weights.now (length plan.old) (length choices.old)) budget plan.old choices.old cells.old result plan.new choices.new cells.new }
+) -> Result<Totals, Refusal>
+    requires { BestSound (asked_in t.now (length plan.old) (length choices.old)) budget (length cells.old) }
+    ensures { SoughtBest (asked_in t.now (length plan.old) (length choices.old)) budget plan.old choices.old cells.old result plan.new choices.new cells.new }
 {
-    let started = start(
-        scans,
-        settings,
-        law,
-        budget as u64,
-        rates,
-        distortions,
-        weights,
-        choices,
-    );
-    match started {
-        Started::Plan(_) => PlanAnswer::Planned(best_that_fits(
-            scans,
-            settings,
-            law,
-            budget,
-            rates,
-            distortions,
-            weights,
-            plan,
-            choices,
-            cells,
-        )),
-        Started::Refused(r) => PlanAnswer::Refused(r),
-    }
+    start(t, budget as u64, choices)?;
+    Ok(best_that_fits(t, budget, plan, choices, cells))
 }
 
 // Where the checks have passed.
 fn sound_best(
-    scans: usize,
-    settings: usize,
-    law: u64,
+    t: &Checked,
     budget: usize,
-    rates: &[u32],
-    distortions: &[u32],
-    weights: &[u8],
     plan: &mut [u8],
     choices: &mut [u8],
     cells: &mut [u32],
-) -> PlanAnswer
-    requires { BestSound (asking scans settings law rates.now distortions.now weights.now (length plan.old) (length choices.old)) budget (length cells.old) }
-    ensures { BestPromise (asking scans settings law rates.now distortions.now weights.now (length plan.old) (length choices.old)) budget plan.old choices.old cells.old result plan.new choices.new cells.new }
+) -> Result<Totals, Refusal>
+    requires { BestSound (asked_in t.now (length plan.old) (length choices.old)) budget (length cells.old) }
+    ensures { BestPromise (asked_in t.now (length plan.old) (length choices.old)) budget plan.old choices.old cells.old result plan.new choices.new cells.new }
 {
-    let size = settings * (budget + 1);
-    let answer = sought(
-        scans,
-        settings,
-        law,
-        budget,
-        rates,
-        distortions,
-        weights,
-        plan,
-        choices,
-        cells,
-    );
-    put_zeros(choices, 0, scans * size);
+    let size = t.settings * (budget + 1);
+    let answer = sought(t, budget, plan, choices, cells);
+    put_zeros(choices, 0, t.scans * size);
     put_all(cells, 0, 4 * size, 0);
     answer
 }
 
 pub fn best_plan(
-    scans: u64,
-    settings: u64,
-    law: u64,
+    tables: &Tables,
     budget: u64,
-    rates: &[u32],
-    distortions: &[u32],
-    weights: &[u8],
     plan: &mut [u8],
     choices: &mut [u8],
     cells: &mut [u32],
-) -> PlanAnswer
-    ensures { BestPromise (asking scans settings law rates.now distortions.now weights.now (length plan.old) (length choices.old)) budget plan.old choices.old cells.old result plan.new choices.new cells.new }
+) -> Result<Totals, Refusal>
+    ensures { BestPromise (asked_of tables.now (length plan.old) (length choices.old)) budget plan.old choices.old cells.old result plan.new choices.new cells.new }
 {
-    let checked = check(
-        scans,
-        settings,
-        law,
-        budget,
-        rates,
-        distortions,
-        weights,
-        plan.len(),
-        choices.len(),
-        cells.len(),
-    );
-    let Stage::Stopped(r) = checked else {
-        return sound_best(
-            scans as usize,
-            settings as usize,
-            law,
-            budget as usize,
-            rates,
-            distortions,
-            weights,
-            plan,
-            choices,
-            cells,
-        );
-    };
-    PlanAnswer::Refused(r)
+    let t = check(tables, budget, plan.len(), choices.len(), cells.len())?;
+    sound_best(&t, budget as usize, plan, choices, cells)
 }

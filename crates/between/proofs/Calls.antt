@@ -1,4 +1,6 @@
 -- The two calls at one budget, on the same numbers, tables and weights, whatever their buffers. Assumes nothing.
+use Rattle.promise.specs.Answers.{PlanAnswer, AverageAnswer}
+use Rattle.std.specs.Prelude.{Ok}
 use mathlib.Core.Path.{◌≡◌, refl, sym, ap, ◌∙◌}
 use mathlib.Core.Bool.{false}
 use mathlib.Core.Option.{none}
@@ -18,11 +20,7 @@ use Rattle.walk.specs.declared.Totals.{Totals}
 use Rattle.walk.specs.Walked.{total_values}
 use Rattle.checks.specs.Planning.{Asked, Sound, asking, problem_of, buffers_short}
 use Rattle.checks.proofs.PlanningLaws.{sound_front, sound_or_not, fronted_passes}
-use Rattle.promise.specs.declared.PlanAnswer.{PlanAnswer}
-use Rattle.promise.specs.declared.PlanAnswer.TheVariants as plan_answer
 use Rattle.promise.specs.declared.AveragePlan.{AveragePlan}
-use Rattle.promise.specs.declared.AverageAnswer.{AverageAnswer}
-use Rattle.promise.specs.declared.AverageAnswer.TheVariants as average_answer
 use Rattle.promise.specs.Promise.{PromiseOver, unsound, no_sequence, none_within, planned, AveragePromise, average_reply, plan_reply}
 use Rattle.promise.proofs.Unique.{average_within}
 use Rattle.best.specs.Best.{budget_check, best_short, BestSound, BestPromise}
@@ -92,10 +90,10 @@ module _ (N Q law B : ℕ) (rates distortions weights : List ℕ) (plan_room scr
   asked' = asking N Q law rates distortions weights plan_room' choices_room
 
   -- "at or above the average plan's floor and at most that plan's distortion"
-  pub calls_between : {plan scratch p s plan₂ choices cells p₂ c₂ k₂ : List ℕ} (m : AveragePlan) (t : Totals) → AveragePromise asked B plan scratch (average_answer.Planned m) p s →
-      BestPromise asked' B plan₂ choices cells (plan_answer.Planned t) p₂ c₂ k₂ → Between m t
+  pub calls_between : {plan scratch p s plan₂ choices cells p₂ c₂ k₂ : List ℕ} (m : AveragePlan) (t : Totals) → AveragePromise asked B plan scratch (Ok m) p s →
+      BestPromise asked' B plan₂ choices cells (Ok t) p₂ c₂ k₂ → Between m t
   calls_between m t h h' =
-      let x = told_plan (average_reply (average_answer.Planned m)).values refl h in
+      let x = told_plan (average_reply (Ok m)).values refl h in
       let y = told_plan (total_values t) refl h' in
       let b = between (problem_of asked) x.1.plan x.1.proves y.1.0 in
       let ed : t.distortion.0 ≡ (problem_of asked).distortion y.0 = ap (λ (l : List ℕ). get_or l 1 0) y.1.1 in

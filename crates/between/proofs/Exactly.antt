@@ -1,4 +1,5 @@
 -- The true best: 8 exactly when no sequence is allowed, and 9 exactly when some is and none is within the budget. Assumes nothing.
+use Rattle.promise.specs.Answers.{PlanAnswer}
 use mathlib.Core.List.{List}
 use Prim.Native.Nat.{ℕ}
 use native.Mathlib.Omega.{arith}
@@ -10,7 +11,6 @@ use Rattle.tables.specs.Limits.{most_short_budget}
 use Rattle.checks.specs.Planning.{Asked, problem_of}
 use Rattle.checks.proofs.GiveLaws.{Gives, gives_when}
 use Rattle.checks.proofs.PlanningLaws.{sound_or_not}
-use Rattle.promise.specs.declared.PlanAnswer.{PlanAnswer}
 use Rattle.promise.specs.Promise.{plan_reply}
 use Rattle.promise.specs.Says.{ExactlyOver}
 use Rattle.promise.proofs.Exactly.{Early, unsound_early, over_exactly}

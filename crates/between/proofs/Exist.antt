@@ -1,4 +1,5 @@
 -- Every question of the true best has an answer that keeps its promise, under any law that has a test. Assumes nothing.
+use Rattle.std.specs.Prelude.{Ok, Err}
 use mathlib.Core.Path.{◌≡◌, refl}
 use mathlib.Core.Bool.{Bool, true, false, cond}
 use mathlib.Core.List.{List}
@@ -12,7 +13,6 @@ use Rattle.tables.specs.Limits.{most_short_scans}
 use Rattle.tables.proofs.LawLaws.{tested?}
 use Rattle.tables.proofs.Listing.{table_finite}
 use Rattle.checks.specs.Planning.{Asked, table_of, problem_of}
-use Rattle.promise.specs.declared.PlanAnswer.TheVariants as plan_answer
 use Rattle.promise.specs.Promise.{cleared, totals, plan_reply}
 use Rattle.promise.proofs.Exist.{totals_of, in_budget?, some_outcome}
 use Rattle.best.specs.Best.{choices_need, totals_need, budget_check, best_short, BothSame, BothZero, IsBestPlan}
@@ -33,10 +33,10 @@ module _ (a : Asked) {test : ℕ → ℕ → Bool} (tests : Tests test a.law) (B
   pub best_some : SomeBest a B plan choices cells
   unfolding totals_of
   best_some =
-      let o = some_outcome plan_reply plan_answer.Refused (λ r. refl) most_short_scans (budget_check B) (best_short a.N a.Q B a.plan a.scratch (length cells)) a
+      let o = some_outcome plan_reply Err (λ r. refl) most_short_scans (budget_check B) (best_short a.N a.Q B a.plan a.scratch (length cells)) a
       (InBudget P B) (IsBestPlan P B) plan (some_or_none P fin) (in_budget? a tests plan choices B)
       (λ t w. let s = some_true_best P fin B t w in
-      record { settings = s.0; values = totals P s.0; is_plan = (s.1, refl); answer = plan_answer.Planned (totals_of P s.0); told = refl }) in
+      record { settings = s.0; values = totals P s.0; is_plan = (s.1, refl); answer = Ok (totals_of P s.0); told = refl }) in
       let choices' = cond o.kept choices (cleared (choices_need a.N a.Q B) choices) in
       let cells' = cond o.kept cells (cleared (totals_need a.Q B) cells) in
       record {

@@ -1,4 +1,5 @@
 -- No answer of the call for the true best depends on a distortion beside a forbidden rate. Assumes nothing.
+use Rattle.promise.specs.Answers.{PlanAnswer}
 use mathlib.Core.Path.{◌≡◌, refl, sym, ◌∙◌}
 use mathlib.Core.List.{List}
 use Prim.Native.Nat.{ℕ}
@@ -9,7 +10,6 @@ use Rattle.tables.specs.Legal.{SameShown}
 use Rattle.tables.specs.Limits.{most_short_scans}
 use Rattle.tables.proofs.HiddenLaws.{shown_agrees, all_legal_same, lowest_illegal_same}
 use Rattle.checks.specs.Planning.{Asked, early, illegal, first_early, asking_under, table_of, problem_of, weigh_of}
-use Rattle.promise.specs.declared.PlanAnswer.{PlanAnswer}
 use Rattle.promise.proofs.Moves.{over_moves, totals_same}
 use Rattle.best.specs.Best.{budget_check, best_short, BestUnsound, BestSound, BestPromise}
 

@@ -1,4 +1,5 @@
 -- The true best: one answer and one content of all three buffers for equal inputs. Assumes nothing.
+use Rattle.promise.specs.Answers.{PlanAnswer}
 use mathlib.Core.Path.{◌≡◌, sym, ap, ◌∙◌}
 use mathlib.Core.Logic.{◌⊎◌, inl, inr}
 use mathlib.Core.List.{List}
@@ -7,7 +8,6 @@ use Rattle.criteria.specs.Choice.{Problem, InBudget}
 use Rattle.criteria.proofs.Unique.{true_best_unique}
 use Rattle.checks.specs.Planning.{Asked, problem_of}
 use Rattle.checks.proofs.PlanningLaws.{unsound_unique, sound_or_not}
-use Rattle.promise.specs.declared.PlanAnswer.{PlanAnswer}
 use Rattle.promise.specs.Promise.{totals}
 use Rattle.promise.proofs.Unique.{over_unique, plan_answer_unique}
 use Rattle.best.specs.Best.{IsBestPlan, BestPromise}

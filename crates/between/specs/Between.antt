@@ -1,10 +1,10 @@
 -- Document 02, [6]: "Show its distortion at or above the average plan's floor and at most that plan's distortion." And an answer with what it
 -- leaves in three buffers. Assumes nothing.
+use Rattle.promise.specs.Answers.{PlanAnswer}
 use Rattle.std.specs.Prelude.{◌≡◌, ◌↔◌, List, ℕ, ◌≤◌}
 use Rattle.tables.specs.Refusals.{Reply}
 use Rattle.walk.specs.declared.Totals.{Totals}
 use Rattle.checks.specs.Planning.{Asked}
-use Rattle.promise.specs.declared.PlanAnswer.{PlanAnswer}
 use Rattle.promise.specs.declared.AveragePlan.{AveragePlan}
 use Rattle.best.specs.Best.{BestPromise}
 

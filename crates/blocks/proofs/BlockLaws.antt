@@ -2,9 +2,7 @@
 use mathlib.Core.Path.{◌≡◌, refl, sym, ap, ◌∙◌}
 use mathlib.Core.Bool.{Bool, true, false, not, ◌||◌}
 use mathlib.Core.List.{List, ◌++◌, append_assoc}
-use mathlib.Core.Option.{none, some}
-use Prim.Native.Nat.{ℕ, ◌+◌, ◌*◌, ◌/◌, ◌≤◌, ◌<◌}
-use native.Mathlib.Nat.{zero-add}
+use Prim.Native.Nat.{ℕ, ◌+◌, ◌*◌}
 use native.Mathlib.Omega.{arith}
 use lib.Dec.{eqb}
 use lib.ListN.{length, take, length-append}
@@ -13,11 +11,7 @@ use borrow.Author.Tests.{eq-eqb, ne_eqb}
 use Rattle.octets.specs.Bytes.{le, value, part, number_at}
 use Rattle.blocks.specs.BlockCheck.{check_of}
 use Rattle.blocks.specs.File.{sealed}
-use Rattle.blocks.specs.Letters.{version_of}
-use Rattle.blocks.specs.Blocks.{block_broken, bad_block}
-use Rattle.tables.specs.declared.refusal.Refusal.TheVariants as refusal
-use Rattle.checks.specs.Checks.{found, first_from}
-use Rattle.checks.proofs.CheckLaws.{first_found, none_first}
+use Rattle.blocks.specs.Blocks.{block_broken}
 use Rattle.octets.proofs.PartLaws.{part_middle}
 use Rattle.octets.proofs.NumberLaws.{length_le, value_le}
 use Rattle.blocks.proofs.SumLaws.{check_fits, ByteSum}
@@ -55,17 +49,6 @@ block_sound version front body rest k at long few number =
         ap (λ (l : List ℕ). part (512 * k) 508 (front ++ l)) (append_assoc body tail rest)
         ∙ part_middle front body (tail ++ rest) (512 * k) 508 at long
 
--- a block whose first four bytes hold another number is broken
-pub other_number : (version : ℕ) (file : List ℕ) (k : ℕ) {r : ℕ} → r ≡ number_at (512 * k) 4 file → (r ≡ k → ⊥) → true ≡ block_broken version file k
-unfolding block_broken
-other_number version file k e h = rw (ne_eqb _ _ (λ g. h (e ∙ g))) refl
-
--- where they hold its own, its check decides
-pub own_number : (version : ℕ) (file : List ℕ) (k : ℕ) {r x s : ℕ} → r ≡ number_at (512 * k) 4 file → r ≡ k → x ≡ number_at (512 * k + 508) 4 file
-    → s ≡ check_of version (part (512 * k) 508 file) → not (eqb x s) ≡ block_broken version file k
-unfolding block_broken
-own_number version file k e h g i = rw (sym e, eq-eqb _ _ h, sym g, sym i) refl
-
 -- a block is broken whose check is another than the one that is stored
 pub other_check : (version : ℕ) (file : List ℕ) (k : ℕ) → (number_at (512 * k + 508) 4 file ≡ check_of version (part (512 * k) 508 file) → ⊥)
     → block_broken version file k ≡ true
@@ -85,20 +68,3 @@ same_block version file file' k p q r =
     ap (λ (l : List ℕ). not (eqb (value l) k) || not (eqb (value (part (512 * k + 508) 4 file')) (check_of version (part (512 * k) 508 file')))) p
     ∙ ap (λ (l : List ℕ). not (eqb (value (part (512 * k) 4 file)) k) || not (eqb (value l) (check_of version (part (512 * k) 508 file')))) q
     ∙ ap (λ (l : List ℕ). not (eqb (value (part (512 * k) 4 file)) k) || not (eqb (value (part (512 * k + 508) 4 file)) (check_of version l))) r
-
--- block k, the first that is broken, is the one that is found
-pub found_block : (file : List ℕ) {version : ℕ} (k : ℕ) → version ≡ version_of file → ((i : ℕ) → i < k → block_broken version file i ≡ false)
-    → k < length file / 512 → block_broken version file k ≡ true → some (refusal.Block k) ≡ found refusal.Block (bad_block file)
-unfolding bad_block
-found_block file {version} k e sound h broken =
-    sym (ap (λ (v : ℕ). found refusal.Block (first_from (block_broken v file) 0 (length file / 512))) (sym e)
-    ∙ ap (found refusal.Block) (first_found (block_broken version file) 0 k (length file / 512) (λ i g. rw (zero-add i) (sound i g)) h (rw (zero-add k) broken))
-    ∙ ap (λ n. found refusal.Block (some n)) (zero-add k))
-
--- where none is broken, none is found
-pub no_block : (file : List ℕ) {version : ℕ} (k : ℕ) → version ≡ version_of file → ((i : ℕ) → i < k → block_broken version file i ≡ false)
-    → length file / 512 ≤ k → none ≡ found refusal.Block (bad_block file)
-unfolding bad_block
-no_block file {version} k e sound h =
-    sym (ap (λ (v : ℕ). found refusal.Block (first_from (block_broken v file) 0 (length file / 512))) (sym e)
-    ∙ ap (found refusal.Block) (none_first (length file / 512) (block_broken version file) 0 (λ i g l. sound i (omega arith))))

@@ -1,36 +1,15 @@
 -- Bytes that differ from those that should stand there, and bytes that do not. Assumes nothing.
 use mathlib.Core.Path.{◌≡◌, refl, sym, ap, ◌∙◌}
-use mathlib.Core.Bool.{Bool, true, false, not, ◌||◌}
+use mathlib.Core.Bool.{Bool, false, not, ◌||◌}
 use mathlib.Core.List.{List, [], ◌∷◌}
-use Prim.Native.Nat.{ℕ, zero, suc, ◌+◌, ◌<◌}
+use Prim.Native.Nat.{ℕ, zero, suc}
 use native.Mathlib.Omega.{arith}
 use lib.Dec.{eqb}
-use lib.ListN.{length, get_or, drop}
-use lib.Seq.{get_or-drop}
-use borrow.Author.Tests.{eq-eqb, ne_eqb, eqb-true, not-false}
+use lib.ListN.{length, replicate}
+use Rattle.std.specs.List.{list_any}
+use borrow.Author.Tests.{ne_eqb, eqb-true, not-false}
 use Rattle.laws.proofs.Tests.{neither}
 use Rattle.blocks.specs.Differ.{differ}
-
-next_byte : (t : List ℕ) (i : ℕ) → get_or (drop 1 t) i 0 ≡ get_or t (suc i) 0
-next_byte t i = let e : 1 + i ≡ suc i = omega arith in get_or-drop 1 t i 0 ∙ ap (λ n. get_or t n 0) e
-
--- a byte that is another
-pub differs : (l t : List ℕ) (i : ℕ) → i < length l → (get_or l i 0 ≡ get_or t i 0 → ⊥) → differ l t ≡ true
-differs [] t i h ne = absurd (omega arith)
-differs (a ∷ l) t zero h ne = rw (ne_eqb a (get_or t 0 0) ne) refl
-differs (a ∷ l) t (suc i) h ne =
-    later (not (eqb a (get_or t 0 0))) (differs l (drop 1 t) i (omega arith) (λ e. ne (e ∙ next_byte t i)))
-  where
-    later : (b : Bool) → differ l (drop 1 t) ≡ true → (b || differ l (drop 1 t)) ≡ true
-    later true e = refl
-    later false e = e
-
--- no byte is another
-pub no_differs : (l t : List ℕ) → ((i : ℕ) → i < length l → get_or l i 0 ≡ get_or t i 0) → differ l t ≡ false
-no_differs [] t same = refl
-no_differs (a ∷ l) t same =
-    rw (eq-eqb a (get_or t 0 0) (same 0 (omega arith)))
-    (no_differs l (drop 1 t) (λ i h. same (suc i) (omega arith) ∙ sym (next_byte t i)))
 
 -- as many bytes, none of which differs
 pub no_difference : (s t : List ℕ) → length t ≡ length s → differ s t ≡ false → s ≡ t
@@ -41,3 +20,17 @@ no_difference (a ∷ s) (b ∷ t) e d =
     let n = neither (not (eqb a b)) (differ s t) d in
     let p : a ≡ b = eqb-true a b (not-false _ n.0) in
     rw p (ap (λ (r : List ℕ). b ∷ r) (no_difference s t (omega arith) n.1))
+
+-- zero is the same as a number where the number is zero
+zero_same : (b : ℕ) → eqb 0 b ≡ eqb b 0
+zero_same zero = refl
+zero_same (suc b) = ne_eqb 0 (suc b) (λ e. absurd (omega (arith, e))) ∙ sym (ne_eqb (suc b) 0 (λ e. absurd (omega (arith, e))))
+
+-- some byte is not zero, where as many zeros should stand
+pub zeros_differ : (k : ℕ) (t : List ℕ) → length t ≡ k → list_any (λ b. not (eqb b 0)) t ≡ differ (replicate k 0) t
+zeros_differ zero [] e = refl
+zeros_differ zero (b ∷ t) e = absurd (omega arith)
+zeros_differ (suc k) [] e = absurd (omega arith)
+zeros_differ (suc k) (b ∷ t) e =
+    ap (λ (x : Bool). not x || list_any (λ b. not (eqb b 0)) t) (sym (zero_same b))
+    ∙ ap (λ (x : Bool). not (eqb 0 b) || x) (zeros_differ k t (omega arith))

@@ -9,7 +9,7 @@ use lib.ListN.{length, take}
 use Rattle.rules.specs.declared.Fields.{Fields}
 use Rattle.octets.specs.Bytes.{le, value}
 use Rattle.blocks.specs.Letters.{qpl2, letters}
-use Rattle.blocks.specs.BlockCheck.{sum}
+use Rattle.std.specs.List.{sum}
 use Rattle.blocks.specs.File.{InVersion, header}
 use Rattle.blocks.proofs.SumLaws.{ByteSum, ◌joins◌, small_le, small_zeros}
 

@@ -1,12 +1,11 @@
 -- The version that letters say. Assumes nothing.
-use mathlib.Core.Path.{◌≡◌, refl, sym, ap, ◌∙◌}
-use mathlib.Core.Bool.{Bool, true, false, not, cond}
+use mathlib.Core.Path.{◌≡◌, refl, ap}
+use mathlib.Core.Bool.{Bool, true, false, cond}
 use mathlib.Core.List.{List}
 use Prim.Native.Nat.{ℕ, zero, suc, ◌≤◌}
 use native.Mathlib.Omega.{arith}
 use lib.Dec.{eqb}
 use lib.ListN.{length}
-use borrow.Author.Tests.{not-true, not-false}
 use Rattle.laws.proofs.Tests.{never}
 use Rattle.octets.specs.Bytes.{part}
 use Rattle.octets.proofs.PartLaws.{part_length}
@@ -21,25 +20,6 @@ other version file = differ (letters version) (part 4 4 file)
 -- what the two comparisons say
 abbrev said : Bool → Bool → ℕ
 said a b = cond a (cond b no_version qpl1) qpl2
-
--- the letters are QPL2
-pub says_qpl2 : (file : List ℕ) {a : Bool} → a ≡ not (differ (letters qpl2) (part 4 4 file)) → a ≡ true → qpl2 ≡ version_of file
-unfolding version_of
-says_qpl2 file p h = sym (ap (λ (x : Bool). said x (other qpl1 file)) (not-true (other qpl2 file) (sym p ∙ h)))
-
--- they are not, and QPL1
-pub says_qpl1 : (file : List ℕ) {a b : Bool} → a ≡ not (differ (letters qpl2) (part 4 4 file)) → a ≡ false
-    → b ≡ not (differ (letters qpl1) (part 4 4 file)) → b ≡ true → qpl1 ≡ version_of file
-unfolding version_of
-says_qpl1 file p h q g =
-    sym (ap (λ (x : Bool). said x (other qpl1 file)) (not-false (other qpl2 file) (sym p ∙ h)) ∙ ap (said true) (not-true (other qpl1 file) (sym q ∙ g)))
-
--- they are neither
-pub says_neither : (file : List ℕ) {a b : Bool} → a ≡ not (differ (letters qpl2) (part 4 4 file)) → a ≡ false
-    → b ≡ not (differ (letters qpl1) (part 4 4 file)) → b ≡ false → no_version ≡ version_of file
-unfolding version_of
-says_neither file p h q g =
-    sym (ap (λ (x : Bool). said x (other qpl1 file)) (not-false (other qpl2 file) (sym p ∙ h)) ∙ ap (said true) (not-false (other qpl1 file) (sym q ∙ g)))
 
 -- letters that are known are those of the version that they say
 pub version_letters : (file : List ℕ) → 8 ≤ length file → eqb (version_of file) no_version ≡ false → letters (version_of file) ≡ part 4 4 file

@@ -7,3 +7,4 @@ pub mod BlockLaws
 pub mod HeaderLaws
 pub mod DataLaws
 pub mod SoundLaws
+pub mod FoundLaws

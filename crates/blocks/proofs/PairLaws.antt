@@ -8,7 +8,7 @@ use lib.Seq.{ext_get_or}
 use Rattle.octets.specs.Bytes.{part, half}
 use Rattle.blocks.specs.File.{pairs}
 use Rattle.octets.proofs.PartLaws.{part_length, part_get}
-use Rattle.blocks.proofs.SumLaws.{ByteSum}
+use Rattle.blocks.proofs.SumLaws.{ByteSum, sum_cons}
 use mathlib.Core.Logic.{◌≢◌}
 use mathlib.Core.List.{List, ◌∷◌}
 use Prim.Native.Nat.{ℕ, zero, suc, ◌+◌, ◌*◌, ◌≤◌, ◌<◌}
@@ -33,7 +33,10 @@ length_pairs e j (suc n) = ap suc (length_pairs e (suc (suc j)) n)
 -- entries of four bits make bytes
 pub small_pairs : (e : ℕ → ℕ) → ((j : ℕ) → e j < 16) → (j n : ℕ) → ByteSum (pairs e j n)
 small_pairs e h j zero = record { most = omega arith }
-small_pairs e h j (suc n) = record { most = omega (arith, (small_pairs e h (suc (suc j)) n).most, h j, h (suc j)) }
+small_pairs e h j (suc n) = record {
+  most =
+      rw sum_cons (omega (arith, (small_pairs e h (suc (suc j)) n).most, h j, h (suc j)));
+}
 
 -- byte i holds entries 2 i and 2 i + 1
 pub get_or_pairs : (e : ℕ → ℕ) (j n i : ℕ) → i < n → get_or (pairs e j n) i 0 ≡ e (j + 2 * i) + 16 * e (suc (j + 2 * i))

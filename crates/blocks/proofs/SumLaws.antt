@@ -1,33 +1,25 @@
 -- Sums of bytes. Assumes nothing.
-use mathlib.Core.Path.{refl, ◌≡◌, ap, ◌∙◌}
+use mathlib.Core.Path.{refl, ◌≡◌, ap}
 use mathlib.Core.List.{List, [], ◌∷◌, ◌++◌}
 use mathlib.Core.Bool.{Bool, true, false, cond}
-use Prim.Native.Nat.{ℕ, zero, suc, ◌+◌, ◌*◌, ◌-◌, ◌/◌, ◌≤◌, ◌<◌}
+use Prim.Native.Nat.{ℕ, zero, suc, ◌+◌, ◌*◌, ◌-◌, ◌/◌, ◌%◌, ◌≤◌, ◌<◌}
 use native.Mathlib.Nat.{mul-le-mul_right}
 use native.Mathlib.Omega.{arith}
-use lib.ListN.{length, get_or, drop, replicate, length-append, length-drop}
-use lib.Seq.{take-suc, get_or-drop}
-use Rattle.octets.specs.Bytes.{le, part}
+use native.Mathlib.Numerals.{add-one}
+use lib.ListN.{length, get_or, take, replicate, length-append}
+use lib.Seq.{take-suc, length-take-le}
+use Rattle.std.specs.List.{sum}
+use Rattle.std.proofs.lemmas.List.Sums.{sum_by-cons, sum_by-append, sum_by_push}
 use lib.Dec.{eqb}
 use borrow.Author.Tests.{eq-eqb, ne_eqb}
-use Rattle.octets.proofs.PartLaws.{part_length}
+use Rattle.octets.specs.Bytes.{le}
 use Rattle.blocks.specs.Letters.{qpl2}
-use Rattle.blocks.specs.BlockCheck.{sum, tilt, check_of}
+use Rattle.blocks.specs.BlockCheck.{tilt, check_of}
 use Rattle.blocks.specs.Sizes.{body_size}
 
--- the sum of two lists of bytes
-sum_append : (a b : List ℕ) → sum (a ++ b) ≡ sum a + sum b
-sum_append [] b = omega arith
-sum_append (x ∷ a) b = omega (arith, sum_append a b)
-
--- a part of one byte more
-part_snoc : (s : List ℕ) (at i : ℕ) → at + i < length s → part at (suc i) s ≡ part at i s ++ (get_or s (at + i) 0 ∷ [])
-part_snoc s at i h =
-    take-suc (drop at s) i 0 (rw (length-drop at s) (omega arith)) ∙ ap (λ (b : ℕ). part at i s ++ (b ∷ [])) (get_or-drop at s i 0)
-
--- the sum of one byte more
-pub sum_more : (s : List ℕ) (at i : ℕ) → at + i < length s → sum (part at (suc i) s) ≡ sum (part at i s) + get_or s (at + i) 0
-sum_more s at i h = ap sum (part_snoc s at i h) ∙ sum_append (part at i s) (get_or s (at + i) 0 ∷ []) ∙ omega arith
+-- the sum of a byte and more, of two lists, and of one byte more behind
+abbrev pub sum_cons : (b : ℕ) (l : List ℕ) → sum (b ∷ l) ≡ b + sum l
+sum_cons b l = sum_by-cons (λ x. x) b l
 
 -- the tilt of a byte and more
 pub tilt_cons : (n b : ℕ) (l : List ℕ) → tilt (suc n) (b ∷ l) ≡ suc n * b + tilt n l
@@ -36,24 +28,26 @@ tilt_cons n b l = let e : suc n - 1 ≡ n = omega arith in ap (λ (m : ℕ). suc
 -- the tilt of one byte more behind: every byte counts once more than before
 tilt_snoc : (l : List ℕ) (x : ℕ) → tilt (suc (length l)) (l ++ (x ∷ [])) ≡ tilt (length l) l + (sum l + x)
 tilt_snoc [] x = omega arith
-tilt_snoc (b ∷ l) x = omega (arith, tilt_snoc l x, tilt_cons (suc (length l)) b (l ++ (x ∷ [])), tilt_cons (length l) b l)
+tilt_snoc (b ∷ l) x =
+    omega (arith, tilt_snoc l x, tilt_cons (suc (length l)) b (l ++ (x ∷ [])), tilt_cons (length l) b l, sum_cons b l)
 
-pub tilt_more : (s : List ℕ) (at i : ℕ) → at + i < length s → tilt (suc i) (part at (suc i) s) ≡ tilt i (part at i s) + sum (part at (suc i) s)
-tilt_more s at i h =
-    let l = part at i s in
-    let x = get_or s (at + i) 0 in
-    let n : length l ≡ i = part_length at i s (omega arith) in
-    let e : part at (suc i) s ≡ l ++ (x ∷ []) = part_snoc s at i h in
-    let m : tilt (suc (length l)) (l ++ (x ∷ [])) ≡ tilt (suc i) (l ++ (x ∷ [])) = ap (λ (k : ℕ). tilt (suc k) (l ++ (x ∷ []))) n in
+-- the tilt of the first bytes and one more: that of the first, and the sum of all of them
+pub tilt_more : (s : List ℕ) (i : ℕ) → i < length s → tilt (i + 1) (take (i + 1) s) ≡ tilt i (take i s) + sum (take (i + 1) s)
+tilt_more s i h =
+    let l = take i s in
+    let x = get_or s i 0 in
+    let n : length l ≡ i = length-take-le i s (omega arith) in
+    let e : take (i + 1) s ≡ l ++ (x ∷ []) = rw add-one (take-suc s i 0 h) in
+    let m : tilt (suc (length l)) (l ++ (x ∷ [])) ≡ tilt (i + 1) (l ++ (x ∷ [])) = rw (n, add-one) refl in
     let k : tilt (length l) l ≡ tilt i l = ap (λ (k : ℕ). tilt k l) n in
-    rw e (omega (arith, tilt_snoc l x, sum_append l (x ∷ []), m, k))
+    rw e (omega (arith, tilt_snoc l x, sum_by_push (λ x. x) l x, m, k))
 
 -- it is at most n times the sum
 tilt_most : (n : ℕ) (l : List ℕ) → tilt n l ≤ n * sum l
 tilt_most n [] = omega arith
 tilt_most n (b ∷ l) =
     let less : n - 1 ≤ n = omega arith in
-    omega (arith, tilt_most (n - 1) l, mul-le-mul_right (sum l) less)
+    rw sum_cons (omega (arith, tilt_most (n - 1) l, mul-le-mul_right (sum l) less))
 
 -- a list with no greater sum than so many bytes can have
 pub record ByteSum (l : List ℕ) : Type 0 where
@@ -62,18 +56,18 @@ pub record ByteSum (l : List ℕ) : Type 0 where
 infixl 40 ◌joins◌
 -- two such lists make one
 pub ◌joins◌ : {a b : List ℕ} → ByteSum a → ByteSum b → ByteSum (a ++ b)
-◌joins◌ {a} {b} h g = record { most = omega (arith, h.most, g.most, sum_append a b, length-append a b) }
+◌joins◌ {a} {b} h g = record { most = omega (arith, h.most, g.most, sum_by-append (λ x. x) a b, length-append a b) }
 
 -- the bytes of a number are bytes
 pub small_le : (k x : ℕ) → ByteSum (le k x)
 unfolding le
 small_le zero x = record { most = omega arith }
-small_le (suc k) x = record { most = omega (arith, (small_le k (x / 256)).most) }
+small_le (suc k) x = record { most = omega (arith, (small_le k (x / 256)).most, sum_cons (x % 256) (le k (x / 256))) }
 
 -- and so are zeros
 pub small_zeros : (k : ℕ) → ByteSum (replicate k 0)
 small_zeros zero = record { most = omega arith }
-small_zeros (suc k) = record { most = omega (arith, (small_zeros k).most) }
+small_zeros (suc k) = record { most = omega (arith, (small_zeros k).most, sum_cons 0 (replicate k 0)) }
 
 -- the check of a block is one more than its tilt, or its sum
 pub check_tilt : (version : ℕ) (body : List ℕ) → version ≡ qpl2 → 1 + tilt body_size body ≡ check_of version body

@@ -1,12 +1,7 @@
 -- The check of a block. Assumes nothing.
-use Rattle.std.specs.Prelude.{cond, List, [], ◌∷◌, ℕ, ◌+◌, ◌*◌, ◌-◌, eqb}
+use Rattle.std.specs.Prelude.{cond, List, [], ◌∷◌, ℕ, ◌+◌, ◌*◌, ◌-◌, eqb, sum}
 use Rattle.blocks.specs.Sizes.{body_size}
 use Rattle.blocks.specs.Letters.{qpl2}
-
--- "the sum of bytes"
-abbrev pub sum : List ℕ → ℕ
-sum [] = 0
-sum (b ∷ l) = b + sum l
 
 -- "the sum of (508 - k) times byte k": n times the first byte, and each next once less
 abbrev pub tilt : ℕ → List ℕ → ℕ

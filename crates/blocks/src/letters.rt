@@ -1,40 +1,23 @@
 // The letters of block 0: those of either version, as fixed byte strings, and the version that a file's letters say.
-ghost use Rattle.std.specs.Prelude.{◌≡◌, not, ◌≤◌, length};
-ghost use Rattle.octets.specs.Bytes.{part};
-ghost use Rattle.blocks.specs.Differ.{differ};
+ghost use Rattle.std.specs.Prelude.{◌≡◌, ◌≤◌, length};
 ghost use Rattle.blocks.specs.Letters.{version_of};
 
-// The versions. Any other letters are of none.
+// The versions. Any other letters are of none. Numbers and no enum: a reader gives the version as a number, and the definitions of the file
+// format (`letters`, `version_of`, `check_of`) and the theorems over them take any.
 pub const QPL1: u64 = 1;
 
 pub const QPL2: u64 = 2;
 
 pub const NO_VERSION: u64 = 0;
 
-// Are these the letters?
-fn letters_are(file: &[u8], fixed: &[u8]) -> bool
-    requires { (8 ≤ length file.now) × (length fixed.now ≡ 4) }
-    ensures { result ≡ not (differ fixed.now (part 4 4 file.now)) }
-{
-    let mut i = 0;
-    while i < 4 {
-        if file[4 + i] != fixed[i] {
-            return false;
-        }
-        i += 1;
-    }
-    true
-}
-
+#[tactic(auto, unfolding(crate::specs::Letters::version_of))]
 pub fn version_of(file: &[u8]) -> u64
     requires { 8 ≤ length file.now }
     ensures { result ≡ version_of file.now }
 {
-    if letters_are(file, b"QPL2") {
-        return QPL2;
+    match &file[4..8] {
+        b"QPL2" => QPL2,
+        b"QPL1" => QPL1,
+        _ => NO_VERSION,
     }
-    if letters_are(file, b"QPL1") {
-        return QPL1;
-    }
-    NO_VERSION
 }

@@ -4,57 +4,46 @@ ghost use Rattle.std.specs.Prelude.{◌≡◌, ◌+◌, ◌*◌, ◌≤◌, ◌<
 ghost use Rattle.tables.specs.declared.refusal.Refusal.«TheVariants» as refusal;
 ghost use Rattle.blocks.specs.Blocks.{length_out, block_broken, bad_block};
 ghost use Rattle.checks.specs.Checks.{found, when};
-ghost use Rattle.checks.specs.Stages.{ended};
+ghost use Rattle.tables.specs.Refusals.{ended};
 
 use crate::check::check_of;
 use crate::letters::version_of;
 use crate::sizes::{BLOCK, BODY, LONG_FILE, SHORT_FILE};
-use checks::stage::Stage;
-use octets::numbers::four;
+use checks::stage::unless;
+use octets::numbers::number;
 use tables::refusal::Refusal;
 
 fn neither_length(n: usize) -> bool
     ensures { result ≡ length_out n }
 {
-    if n == SHORT_FILE {
-        return false;
-    }
-    n != LONG_FILE
+    n != SHORT_FILE && n != LONG_FILE
 }
 
 // The first stage.
-pub fn size(file: &[u8]) -> Stage
+pub fn size(file: &[u8]) -> Result<(), Refusal>
     ensures { ended result ≡ when (length_out (length file.now)) refusal.FileLength }
 {
-    if neither_length(file.len()) {
-        return Stage::Stopped(Refusal::FileLength);
-    }
-    Stage::Passed
+    unless(neither_length(file.len()), Refusal::FileLength)
 }
 
+#[tactic(auto, unfolding(crate::specs::Blocks::block_broken))]
 fn block_wrong(version: u64, file: &[u8], k: usize) -> bool
     requires { (k < 3) × (block_size * k + block_size ≤ length file.now) }
     ensures { result ≡ block_broken version file.now k }
 {
     let at = BLOCK * k;
-    if four(file, at) != k as u64 {
-        return true;
-    }
-    four(file, at + BODY) != check_of(version, file, at)
+    number::<4>(file, at) != k as u64 || number::<4>(file, at + BODY) != check_of(version, file, at)
 }
 
 // The second stage: the lowest block that is wrong, where the letters of block 0 choose the check of all.
-pub fn blocks(file: &[u8]) -> Stage
+#[tactic(auto, using(crate::proofs::FoundLaws::found_none), unfolding(crate::specs::Blocks::bad_block))]
+pub fn blocks(file: &[u8]) -> Result<(), Refusal>
     requires { (block_size ≤ length file.now) × (length file.now ≤ long_file) }
     ensures { ended result ≡ found refusal.Block (bad_block file.now) }
 {
     let version = version_of(file);
-    let mut k = 0;
-    while k < file.len() / BLOCK {
-        if block_wrong(version, file, k) {
-            return Stage::Stopped(Refusal::Block(k as u64));
-        }
-        k += 1;
+    for k in 0..file.len() / BLOCK {
+        unless(block_wrong(version, file, k), Refusal::Block(k as u64))?;
     }
-    Stage::Passed
+    Ok(())
 }

@@ -4,3 +4,4 @@ pub mod GiveLaws
 pub mod StageLaws
 pub mod PlanningLaws
 pub mod FitLaws
+pub mod GivenLaws

@@ -15,12 +15,10 @@ use Rattle.tables.specs.declared.refusal.Refusal.{Refusal}
 use Rattle.tables.specs.declared.refusal.Refusal.TheVariants as refusal
 use Rattle.tables.specs.Limits.{most_scans, most_settings, most_term}
 use Rattle.tables.specs.Tables.{cells, scratch_need}
-use Rattle.checks.specs.declared.stage.Stage.{Stage}
-use Rattle.checks.specs.declared.stage.Stage.TheVariants.{Stopped}
 use Rattle.checks.specs.Checks.{zero_or_over, when, or_else, first_refusal}
 use Rattle.checks.specs.Planning.{Asked, UnsoundBy, SoundBy, Sound, early, illegal, first_early, range_checks, front_checks, planning_checks, settings_out, lengths_out, sizes_out, weigh_of, multiplier_out}
-use Rattle.checks.specs.Stages.{ended, CheckedBy}
-use Rattle.checks.specs.Fit.{Fit}
+use Rattle.checks.specs.Stages.{CheckedBy}
+use Rattle.checks.specs.Fit.{Fit, Sized}
 use Rattle.checks.proofs.GiveLaws.{Gives, gives_first, gives_when}
 use Rattle.checks.proofs.RangeLaws.{in_range, passes_range}
 use Rattle.checks.proofs.CheckLaws.{none_when, none_else, else_nothing, all_pass, first_append}
@@ -75,23 +73,28 @@ module _ (most : ℕ) (further : Option Refusal) (short : Bool) (a : Asked) wher
       ∙ ap (or_else (front_refusal most further a)) (else_nothing (buffer_refusal short))
 
   -- as each stage of the code ends, where those before it have passed
-  pub front_stage : {z : Stage} {w : Refusal} → ended z ≡ front_refusal most further a → z ≡ Stopped w →
-      CheckedBy most further short a (ended z)
-  front_stage {z} {w} e q =
-      let f : front_refusal most further a ≡ some w = sym e ∙ ap ended q in
-      rw q (early {r = w} (early_parts ∙ rw f refl))
+  pub front_stage : {w : Refusal} → some w ≡ front_refusal most further a → CheckedBy most further short a (some w)
+  front_stage {w} e =
+      let f : front_refusal most further a ≡ some w = sym e in
+      early {r = w} (early_parts ∙ rw f refl)
 
-  pub buffer_stage : {z : Stage} {w : Refusal} → front_refusal most further a ≡ none → ended z ≡ buffer_refusal short → z ≡ Stopped w →
-      CheckedBy most further short a (ended z)
-  buffer_stage {z} {w} n e q =
-      let f : buffer_refusal short ≡ some w = sym e ∙ ap ended q in
-      rw q (early {r = w} (early_parts ∙ rw (n, f) refl))
+  pub buffer_stage : {w : Refusal} → none ≡ front_refusal most further a → some w ≡ buffer_refusal short → CheckedBy most further short a (some w)
+  buffer_stage {w} n e =
+      let f : buffer_refusal short ≡ some w = sym e in
+      let p : front_refusal most further a ≡ none = sym n in
+      early {r = w} (early_parts ∙ rw (p, f) refl)
 
   -- where none of them refuses, the cells decide
-  pub cells_decide : {o : Option Refusal} → front_refusal most further a ≡ none → buffer_refusal short ≡ none →
+  pub cells_decide : {o : Option Refusal} → none ≡ front_refusal most further a → none ≡ buffer_refusal short →
       Judged (weigh_of a) a.rates a.distortions o → CheckedBy most further short a o
-  cells_decide e f (all_legal h) = record { passed = early_parts ∙ rw (e, f) refl; legal = h }
-  cells_decide e f (not_legal h) = illegal (early_parts ∙ rw (e, f) refl) h
+  cells_decide n m (all_legal h) =
+      let e : front_refusal most further a ≡ none = sym n in
+      let f : buffer_refusal short ≡ none = sym m in
+      record { passed = early_parts ∙ rw (e, f) refl; legal = h }
+  cells_decide n m (not_legal h) =
+      let e : front_refusal most further a ≡ none = sym n in
+      let f : buffer_refusal short ≡ none = sym m in
+      illegal (early_parts ∙ rw (e, f) refl) h
 
 -- what the checks 1 to 5 leave; `wrong` says that 5 fails
 pub record FrontedBy (most N Q : ℕ) (lawless : Bool) (further : Option Refusal) (wrong : Bool) : Type 0 where
@@ -130,6 +133,20 @@ Fronted most further a = FrontedBy most a.N a.Q a.lawless further (sizes_out a)
 
 pub fronted : (most : ℕ) (further : Option Refusal) (a : Asked) → front_refusal most further a ≡ none → Fronted most further a
 fronted most further a e = fronted_by most a.N a.Q a.lawless further (sizes_out a) e
+
+-- .. and so what is needed of numbers and lengths to judge the cells
+pub sized : {most : ℕ} {further : Option Refusal} (a : Asked) → Fronted most further a → most ≤ most_scans → Sized a.N a.Q a.rates a.distortions a.weights
+sized a f h =
+    let l = sizes_exact a f.lengths in
+    record {
+      some_scans = f.some_scans;
+      scans = omega (arith, f.scans);
+      some_settings = f.some_settings;
+      settings = f.settings;
+      rates_long = l.0;
+      distortions_long = l.1;
+      weights_long = l.2;
+    }
 
 -- .. where none of the checks 1 to 6 refuses
 pub early_fronted : (most : ℕ) (further : Option Refusal) (short : Bool) (a : Asked) → first_early most further short a ≡ none → Fronted most further a

@@ -3,3 +3,4 @@ pub mod Checks
 pub mod Planning
 pub mod Stages
 pub mod Fit
+pub mod Given

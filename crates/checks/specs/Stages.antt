@@ -3,15 +3,7 @@ use Rattle.std.specs.Prelude.{Bool, ℕ}
 use Rattle.std.proofs.Math.Option.{Option, none, some}
 use Rattle.tables.specs.Limits.{most_scans}
 use Rattle.tables.specs.declared.refusal.Refusal.{Refusal}
-use Rattle.checks.specs.declared.stage.Stage.{Stage}
-use Rattle.checks.specs.declared.stage.Stage.TheVariants.{Passed, Stopped}
 use Rattle.checks.specs.Planning.{Asked, UnsoundBy, SoundBy, buffers_short}
-
--- "Where an answer is an enum, a definition gives this paper's number and values for each of its cases": a stage that stopped has the number
--- and the value of its refusal (`number_of`, `carried_by`); one that passed has no refusal, which is number 0 and no value.
-abbrev pub ended : Stage → Option Refusal
-ended Passed = none
-ended (Stopped r) = some r
 
 -- the checks 1 to 7 came out as this
 abbrev pub CheckedBy : (most : ℕ) → Option Refusal → (short : Bool) → Asked → Option Refusal → Type 0

@@ -1,5 +1,5 @@
 -- The test of an entry: over the entries that it was made of, and in the words of the law. Assumes nothing.
-use mathlib.Core.Path.{◌≡◌, refl, ap, ◌∙◌}
+use mathlib.Core.Path.{◌≡◌, refl, ap}
 use mathlib.Core.Logic.{◌↔◌}
 use mathlib.Core.Bool.{Bool, true, false, not, ◌||◌, ◌&&◌}
 use Prim.Native.Nat.{ℕ, zero, suc, ◌-◌, ◌<◌}
@@ -10,9 +10,12 @@ use Rattle.laws.proofs.Tests.{neither}
 use Rattle.tables.specs.Law.{Law, Tests}
 use Rattle.entries.specs.Entries.{breaks, entry_broken, KeepsLaw}
 
--- what is said of two numbers is said of the entries that they are
-pub breaks_of : (N Q : ℕ) (test : ℕ → ℕ → Bool) (j : ℕ) {p p' q q' : ℕ} {r : Bool} → r ≡ breaks N Q test j p q → p ≡ p' → q ≡ q' → r ≡ breaks N Q test j p' q'
-breaks_of N Q test j {p' = p'} {q = q} e f g = e ∙ ap (λ (x : ℕ). breaks N Q test j x q) f ∙ ap (breaks N Q test j p') g
+-- Of two numbers the rule says what it says of the entries that they are; nothing stands before entry 0.
+pub breaks_entry : (N Q : ℕ) (test : ℕ → ℕ → Bool) (e : ℕ → ℕ) (j p q : ℕ) → (0 < j → p ≡ e (j - 1)) → q ≡ e j
+    → breaks N Q test j p q ≡ entry_broken N Q test e j
+unfolding entry_broken
+breaks_entry N Q test e zero p q f g = ap (breaks N Q test 0 p) g
+breaks_entry N Q test e (suc j) p q f g = rw (f (omega arith), g) refl
 
 module _ (N Q : ℕ) (test : ℕ → ℕ → Bool) (e : ℕ → ℕ) where
   -- an entry that keeps its rule is below Q

@@ -1,7 +1,7 @@
 -- The decimal digits of a number: the last one and those before it, and how many there are. Assumes nothing.
 use mathlib.Core.Path.{◌≡◌, refl, ap, ◌∙◌}
 use mathlib.Core.List.{List, [], ◌∷◌, ◌++◌}
-use Prim.Native.Nat.{ℕ, zero, suc, ◌+◌, ◌/◌, ◌%◌, ◌^◌, ◌≤◌, ◌<◌}
+use Prim.Native.Nat.{ℕ, zero, suc, ◌+◌, ◌/◌, ◌%◌, ◌*◌, ◌^◌, ◌≤◌, ◌<◌, max}
 use native.Mathlib.Omega.{arith}
 use lib.ListN.{length, length-append}
 use borrow.Author.Tests.{lt-ltb, le-ltb}
@@ -37,3 +37,8 @@ pub width_most : (k x : ℕ) → x < 10 ^ suc k → length (decimal x) ≤ suc k
 width_most zero x h = omega (arith, width_one x (omega arith))
 width_most (suc k) x h =
     cases x 10 (λ s. omega (arith, width_one x s)) (λ b. omega (arith, width_more x b, width_most k (x / 10) (omega arith)))
+
+-- .. exactly, by the powers of ten beside it
+pub width_is : (k x : ℕ) → 10 ^ k ≤ max x 1 → max x 1 < 10 * 10 ^ k → length (decimal x) ≡ k + 1
+width_is zero x h g = width_one x (omega arith)
+width_is (suc k) x h g = omega (arith, width_more x (omega arith), width_is k (x / 10) (omega arith) (omega arith))

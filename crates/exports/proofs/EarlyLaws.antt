@@ -1,8 +1,9 @@
 -- The checks before the text, and what tables that pass them know. Assumes nothing.
-use mathlib.Core.Path.{◌≡◌, refl, ap, ◌∙◌}
+use mathlib.Core.Path.{◌≡◌, refl, sym, ap, ◌∙◌}
+use mathlib.Core.Bool.{false}
 use mathlib.Core.Option.{Option, none, some}
 use mathlib.Core.List.{List}
-use Prim.Native.Nat.{ℕ}
+use Prim.Native.Nat.{ℕ, ◌≤◌}
 use native.Mathlib.Nat.{zero-add}
 use native.Mathlib.Omega.{arith}
 use lib.ListN.{length}
@@ -14,6 +15,9 @@ use Rattle.tables.specs.Legal.{cell_illegal, no_weights}
 use Rattle.tables.proofs.LegalTests.{legal_passes, passed_legal, illegal_fails}
 use Rattle.legal.specs.Judged.{Judged, all_legal, not_legal}
 use Rattle.checks.specs.Checks.{found, first_from, first_refusal}
+use Rattle.checks.specs.Planning.{plain_checks}
+use Rattle.legal.specs.Parts.{no_cell}
+use Rattle.tables.proofs.CellLaws.{cells_small}
 use Rattle.checks.proofs.CheckLaws.{none_when, all_pass, none_found, none_so, none_first, first_found}
 use Rattle.checks.proofs.RangeLaws.{in_range, passes_range}
 use Rattle.checks.proofs.PlanningLaws.{lengths_exact}
@@ -63,3 +67,13 @@ passes_early {N} {Q} {rates} {distortions} x =
       none_first (length rates) (cell_illegal no_weights rates distortions) 0
           (λ i l g. legal_passes no_weights rates distortions i (x.legal i (omega arith))),
     ) refl
+
+-- tables that pass 5 are of one length, and no larger than the largest
+pub table_sizes : (N Q : ℕ) (rates distortions : List ℕ) → none ≡ first_refusal (plain_checks N Q false rates distortions) →
+    (length distortions ≡ length rates) × (length rates ≤ no_cell)
+table_sizes N Q rates distortions e =
+    let p = all_pass (plain_checks N Q false rates distortions) (sym e) in
+    let n = in_range (none_when _ _ p.0) in
+    let q = in_range (none_when _ _ p.1.0) in
+    let l = lengths_exact N Q rates distortions (none_when _ _ p.1.1.1.1.0) in
+    (l.1 ∙ sym l.0, omega (arith, l.0, cells_small {N = N} {Q = Q} n.1 q.1))

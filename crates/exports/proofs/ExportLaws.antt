@@ -9,6 +9,7 @@ use lib.Dec.{ltb}
 use lib.ListN.{length, get_or, drop, length-append}
 use lib.Seq.{sets, sets-eq}
 use borrow.Author.Tests.{lt-ltb, le-ltb, ltb-false}
+use Rattle.std.specs.Prelude.{Result, Ok, Err}
 use Rattle.tables.specs.declared.refusal.Refusal.{Refusal}
 use Rattle.tables.specs.declared.refusal.Refusal.TheVariants as refusal
 use Rattle.tables.specs.Refusals.{Reply, refused, answered}
@@ -16,10 +17,12 @@ use Rattle.tables.specs.Tables.{cells}
 use Rattle.tables.proofs.RefusalLaws.{refused_unique, answered_or_refused}
 use Rattle.checks.specs.Checks.{when, or_else, first_refusal}
 use Rattle.checks.proofs.CheckLaws.{none_when, none_else, all_pass, first_append, else_nothing}
-use Rattle.exports.specs.declared.export.ExportAnswer.{ExportAnswer}
-use Rattle.exports.specs.declared.export.ExportAnswer.TheVariants.{Exported, Refused}
 use Rattle.exports.specs.Export.{early_checks, cell_line, place_at, export_from, export_text, export_checks, export_refusal, export_answered, text_after, export_reply, Exportable}
 use Rattle.exports.proofs.EarlyLaws.{exportable, passes_early}
+use Rattle.tables.specs.Legal.{LegalRate, LegalBeside}
+use Rattle.exports.specs.declared.place.Place.{Place}
+use Rattle.exports.specs.Parts.{Placed}
+use Rattle.exports.proofs.TextLaws.{AtCell, place_is}
 use Rattle.exports.proofs.PlaceLaws.{in_cell_order, placed}
 use Rattle.exports.proofs.CellLaws.{cell_short}
 
@@ -43,6 +46,11 @@ from_short {Q = Q} {rates} {distortions} x (suc n) c h =
 pub export_short : {N Q : ℕ} {rates distortions : List ℕ} → Exportable N Q rates distortions → length (export_text N Q rates distortions) ≤ 28 * cells N Q
 unfolding export_text
 export_short {N} {Q} x = from_short x (cells N Q) 0 (omega arith)
+
+-- a cell of it, as it is given to its line
+pub cell_given : {N Q at c rate distortion : ℕ} {rates distortions : List ℕ} {p : Place} → Exportable N Q rates distortions → AtCell N Q rates distortions at p c →
+    c < length rates → rate ≡ get_or rates c 0 → distortion ≡ get_or distortions c 0 → Placed p × (LegalRate rate × LegalBeside 1 rate distortion)
+cell_given {c = c} x a h r d = (placed x (place_is x.some_settings a) (omega (arith, x.rates_long)), rw (r, d) (x.legal c h))
 
 -- ---- the ways out
 
@@ -105,8 +113,8 @@ export_passed N Q rates distortions text e =
 -- ---- the answer
 
 -- two answers with one number and the same values are the same
-pub export_unique : (a b : ExportAnswer) → export_reply a ≡ export_reply b → a ≡ b
-export_unique (Exported n) (Exported m) e = ap (λ (x : Reply). Exported (get_or x.values 0 0)) e
-export_unique (Exported n) (Refused r) e = absurd (answered_or_refused r e)
-export_unique (Refused r) (Exported n) e = absurd (answered_or_refused r (sym e))
-export_unique (Refused r) (Refused r') e = ap Refused (refused_unique e)
+pub export_unique : (a b : Result ℕ Refusal) → export_reply a ≡ export_reply b → a ≡ b
+export_unique (Ok n) (Ok m) e = ap (λ (x : Reply). Ok (get_or x.values 0 0)) e
+export_unique (Ok n) (Err r) e = absurd (answered_or_refused r e)
+export_unique (Err r) (Ok n) e = absurd (answered_or_refused r (sym e))
+export_unique (Err r) (Err r') e = ap Err (refused_unique e)

@@ -1,5 +1,5 @@
 -- Document 02, [1]: "export it in cell order". Assumes nothing.
-use Rattle.std.specs.Prelude.{◌≡◌, cond, List, [], ◌∷◌, ◌++◌, ℕ, zero, suc, ◌+◌, ◌/◌, ◌%◌, ◌≤◌, ◌<◌, eqb, ltb, length, get_or, drop}
+use Rattle.std.specs.Prelude.{◌≡◌, cond, Result, Ok, Err, List, [], ◌∷◌, ◌++◌, ℕ, zero, suc, ◌+◌, ◌/◌, ◌%◌, ◌≤◌, ◌<◌, eqb, ltb, length, get_or, drop}
 use Rattle.std.proofs.Math.Option.{Option, none, some}
 use Rattle.tables.specs.declared.refusal.Refusal.{Refusal}
 use Rattle.tables.specs.declared.refusal.Refusal.TheVariants as refusal
@@ -10,8 +10,6 @@ use Rattle.tables.specs.Legal.{AllLegal, cell_illegal, no_weights}
 use Rattle.checks.specs.Checks.{when, found, first_from, first_refusal, or_answer}
 use Rattle.checks.specs.Planning.{scans_out, settings_out, lengths_out}
 use Rattle.exports.specs.declared.place.Place.{Place}
-use Rattle.exports.specs.declared.export.ExportAnswer.{ExportAnswer}
-use Rattle.exports.specs.declared.export.ExportAnswer.TheVariants as export_answer
 
 -- "no quotes or leading zeros": the decimal digits of a number. (k is at least as many as there are.)
 abbrev pub decimal_of : ℕ → ℕ → List ℕ
@@ -116,6 +114,6 @@ export_of N Q rates distortions text = record {
 }
 
 -- the number and the value of the answer
-abbrev pub export_reply : ExportAnswer → Reply
-export_reply (export_answer.Exported n) = answered (n ∷ [])
-export_reply (export_answer.Refused r) = refused r
+abbrev pub export_reply : Result ℕ Refusal → Reply
+export_reply (Ok n) = answered (n ∷ [])
+export_reply (Err r) = refused r

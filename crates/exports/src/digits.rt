@@ -8,22 +8,20 @@ pub fn width(x: u64) -> usize
     requires { x < 10000000 }
     ensures { (result ≡ length (decimal x)) × (result ≤ 7) }
 {
-    if x < 10 {
-        return 1;
-    }
-    1 + width(x / 10)
+    x.max(1).ilog10() as usize + 1
 }
 
 // The digits, from `at` on; the place after them.
+#[tactic(auto, using(crate::proofs::DecimalLaws::width_one, crate::proofs::DecimalLaws::width_more))]
 pub fn put_digits(out: &mut [u8], at: usize, x: u64) -> usize
     requires { (x < 10000000) × (at + length (decimal x) ≤ length out.old) }
     ensures { (result ≡ at + length (decimal x)) × (out.new ≡ sets out.old at (decimal x)) }
 {
     if x < 10 {
-        out[at] = (48 + x) as u8;
+        out[at] = b'0' + x as u8;
         return at + 1;
     }
     let last = put_digits(out, at, x / 10);
-    out[last] = (48 + x % 10) as u8;
+    out[last] = b'0' + (x % 10) as u8;
     last + 1
 }

@@ -1,59 +1,42 @@
 // Export: the checks, the length, and then the bytes.
-ghost use Rattle.std.specs.Prelude.{◌≡◌, ◌+◌, ◌*◌, ◌≤◌, length};
+ghost use Rattle.std.specs.Prelude.{◌≡◌, ◌*◌, ◌≤◌, length};
 ghost use Rattle.std.proofs.lemmas.List.Edits.{sets};
 ghost use Rattle.tables.specs.Tables.{cells};
 ghost use Rattle.tables.specs.Legal.{LegalRate, LegalBeside};
+ghost use Rattle.tables.specs.Refusals.{ended};
 ghost use Rattle.checks.specs.Checks.{first_refusal};
-ghost use Rattle.checks.specs.Stages.{ended};
 ghost use Rattle.exports.specs.Parts.{Placed};
 ghost use Rattle.exports.specs.Export.{early_checks, cell_line, export_text, export_of, export_reply, Exportable};
+ghost use Rattle.exports.specs.Shown.{text_of};
 
-use crate::line::{line_length, put_line};
-use crate::place::{Place, next};
-use checks::check::{legality_stage, wrong_lengths};
-use checks::range::ranges;
-use checks::stage::{Stage, unless};
+use crate::line::Line;
+use crate::place::{FIRST, Place, next};
+use checks::check::plain_front;
 use legal::judge_plain;
-use octets::cast::cell_to_number;
-use tables::cells::count;
-use tables::limits::{FORBIDDEN, MOST_SCANS};
+use tables::limits::FORBIDDEN;
 use tables::refusal::Refusal;
 
-#[derive(Drop)]
-pub enum ExportAnswer {
-    // the length of the text
-    Exported(u64),
-    Refused(Refusal),
-}
-
 // 1, 2, 5 and 7.
-fn early(scans: u64, settings: u64, rates: &[u32], distortions: &[u32]) -> Stage
+fn early(scans: u64, settings: u64, rates: &[u32], distortions: &[u32]) -> Result<(), Refusal>
     ensures { ended result ≡ first_refusal (early_checks scans settings rates.now distortions.now) }
 {
-    let ranged = ranges(MOST_SCANS, scans, settings, false);
-    let Stage::Passed = ranged else {
-        return ranged;
-    };
-    let cells = count(scans, settings) as usize;
-    let fifth = unless(
-        wrong_lengths(cells, rates.len(), distortions.len()),
-        Refusal::Lengths,
-    );
-    let Stage::Passed = fifth else {
-        return fifth;
-    };
-    legality_stage(judge_plain(rates, distortions))
+    plain_front(scans, settings, false, rates, distortions)?;
+    judge_plain(rates, distortions)
 }
 
-// The bytes of the line of a cell: none where it is forbidden.
-fn cell_length(p: Place, rate: u32, distortion: u32) -> usize
-    requires { Placed p × (LegalRate rate × LegalBeside 1 rate distortion) }
-    ensures { (result ≡ length (cell_line p rate distortion)) × (result ≤ 28) }
+// The line of a cell: none where it is forbidden.
+fn line_of(place: Place, rate: u32, distortion: u32) -> Option<Line>
+    requires { Placed place × (LegalRate rate × LegalBeside 1 rate distortion) }
+    ensures { text_of result ≡ cell_line place rate distortion }
 {
     if rate == FORBIDDEN {
-        return 0;
+        return None;
     }
-    line_length(p, cell_to_number(rate), cell_to_number(distortion))
+    Some(Line {
+        place,
+        rate: u64::from(rate),
+        distortion: u64::from(distortion),
+    })
 }
 
 // The length of the whole text.
@@ -62,34 +45,14 @@ fn measure(scans: u64, settings: u64, rates: &[u32], distortions: &[u32]) -> usi
     ensures { (result ≡ length (export_text scans settings rates.now distortions.now)) × (result ≤ 28 * cells scans settings) }
 {
     let mut total = 0;
-    let mut p = Place {
-        scan: 0,
-        previous: 0,
-        setting: 0,
-    };
-    for c in 0..rates.len() {
-        total += cell_length(p, rates[c], distortions[c]);
+    let mut p = FIRST;
+    for (rate, distortion) in rates.iter().zip(distortions) {
+        if let Some(line) = line_of(p, *rate, *distortion) {
+            total += line.len();
+        }
         p = next(settings, p);
     }
     total
-}
-
-// The line of a cell, from `at` on; the place after it.
-fn put_cell(text: &mut [u8], at: usize, p: Place, rate: u32, distortion: u32) -> usize
-    requires placed { Placed p × (LegalRate rate × LegalBeside 1 rate distortion) }
-    requires distortion_in_bounds { at + length (cell_line p rate distortion) ≤ length text.old }
-    ensures { (result ≡ at + length (cell_line p rate distortion)) × (text.new ≡ sets text.old at (cell_line p rate distortion)) }
-{
-    if rate == FORBIDDEN {
-        return at;
-    }
-    put_line(
-        text,
-        at,
-        p,
-        cell_to_number(rate),
-        cell_to_number(distortion),
-    )
 }
 
 // The whole text, to the front of the buffer.
@@ -99,13 +62,11 @@ fn put_all(scans: u64, settings: u64, rates: &[u32], distortions: &[u32], text: 
     ensures { text.new ≡ sets text.old 0 (export_text scans settings rates.now distortions.now) }
 {
     let mut at = 0;
-    let mut p = Place {
-        scan: 0,
-        previous: 0,
-        setting: 0,
-    };
-    for c in 0..rates.len() {
-        at = put_cell(text, at, p, rates[c], distortions[c]);
+    let mut p = FIRST;
+    for (rate, distortion) in rates.iter().zip(distortions) {
+        if let Some(line) = line_of(p, *rate, *distortion) {
+            at = line.put(text, at);
+        }
         p = next(settings, p);
     }
 }
@@ -117,18 +78,15 @@ pub fn export(
     rates: &[u32],
     distortions: &[u32],
     text: &mut [u8],
-) -> ExportAnswer
+) -> Result<u64, Refusal>
     ensures result_value { export_reply result ≡ (export_of scans settings rates.now distortions.now text.old).reply }
     ensures text_after { text.new ≡ (export_of scans settings rates.now distortions.now text.old).text }
 {
-    let checked = early(scans, settings, rates, distortions);
-    let Stage::Stopped(refusal) = checked else {
-        let n = measure(scans, settings, rates, distortions);
-        if text.len() < n {
-            return ExportAnswer::Refused(Refusal::Buffer);
-        }
-        put_all(scans, settings, rates, distortions, text);
-        return ExportAnswer::Exported(n as u64);
-    };
-    ExportAnswer::Refused(refusal)
+    early(scans, settings, rates, distortions)?;
+    let n = measure(scans, settings, rates, distortions);
+    if text.len() < n {
+        return Err(Refusal::Buffer);
+    }
+    put_all(scans, settings, rates, distortions, text);
+    Ok(n as u64)
 }

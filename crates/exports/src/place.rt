@@ -9,32 +9,30 @@ pub struct Place {
     pub setting: u64,
 }
 
+// The place of the first cell.
+pub const FIRST: Place = Place {
+    scan: 0,
+    previous: 0,
+    setting: 0,
+};
+
 // The place of the next cell.
+#[tactic(auto, unfolding(crate::specs::Export::next_place))]
 pub fn next(settings: u64, p: Place) -> Place
     requires { (p.scan < 65536) × ((p.previous < 65536) × (p.setting < 65536)) }
     ensures { result ≡ next_place settings p }
 {
-    let setting = p.setting + 1;
-    if setting < settings {
+    if p.setting + 1 < settings {
         return Place {
-            scan: p.scan,
-            previous: p.previous,
-            setting,
+            setting: p.setting + 1,
+            ..p
         };
     }
-    if p.scan == 0 {
+    if p.scan != 0 && p.previous + 1 < settings {
         return Place {
-            scan: 1,
-            previous: 0,
+            previous: p.previous + 1,
             setting: 0,
-        };
-    }
-    let previous = p.previous + 1;
-    if previous < settings {
-        return Place {
-            scan: p.scan,
-            previous,
-            setting: 0,
+            ..p
         };
     }
     Place {

@@ -1,5 +1,6 @@
 -- Every average and every minmax plan that is given can be written, and what is written reads back, under any law that has a test.
 -- Assumes nothing.
+use Rattle.std.specs.Prelude.{Ok}
 use mathlib.Core.Path.{◌≡◌, refl, ap, ◌∙◌}
 use mathlib.Core.Bool.{Bool, false}
 use mathlib.Core.Option.{Option, none}
@@ -29,8 +30,6 @@ use Rattle.checks.specs.Fit.{Fit}
 use Rattle.checks.proofs.FitLaws.{fit_legal}
 use Rattle.promise.specs.declared.AveragePlan.{AveragePlan}
 use Rattle.promise.specs.declared.MinmaxPlan.{MinmaxPlan}
-use Rattle.promise.specs.declared.AverageAnswer.TheVariants as average_answer
-use Rattle.promise.specs.declared.MinmaxAnswer.TheVariants as minmax_answer
 use Rattle.promise.specs.Promise.{unsound, no_sequence, none_within, planned, IsAveragePlan, IsMinmaxPlan, AveragePromise, MinmaxPromise}
 use Rattle.checks.proofs.PlanningLaws.{sound_fit, sound_law}
 use Rattle.seek.proofs.SeekLaws.{sums_small, peak_fits}
@@ -210,7 +209,7 @@ reads_back f settings room w h = record {
 -- Under any law that has a test, whatever number stands for it in the file.
 module _ {a : Asked} {test : ℕ → ℕ → Bool} (tests : Tests test a.law) (number : ℕ) {B : ℕ} {plan scratch plan' scratch' : List ℕ} where
   -- an average plan that is given is refused by the writer only for want of room
-  pub average_written_under : (room : ℕ) (m : AveragePlan) → AveragePromise a B plan scratch (average_answer.Planned m) plan' scratch' →
+  pub average_written_under : (room : ℕ) (m : AveragePlan) → AveragePromise a B plan scratch (Ok m) plan' scratch' →
       write_refusal_under a.lawless test (average_fields a.N a.Q number B a.weights m) plan' room ≡ when (ltb room (file_length a.N)) refusal.Buffer
   average_written_under room m (unsound {r = r} u e f g) = absurd (answered_or_refused r e)
   average_written_under room m (no_sequence o n e f g) = absurd (answered_or_refused refusal.NoSequence e)
@@ -220,7 +219,7 @@ module _ {a : Asked} {test : ℕ → ℕ → Bool} (tests : Tests test a.law) (n
       (average_rules tests o q number m (ap (λ (x : Reply). x.values) e)) (drop a.N plan) room)
 
   -- and so is a minmax plan
-  pub minmax_written_under : (room : ℕ) (m : MinmaxPlan) → MinmaxPromise a B plan scratch (minmax_answer.Planned m) plan' scratch' →
+  pub minmax_written_under : (room : ℕ) (m : MinmaxPlan) → MinmaxPromise a B plan scratch (Ok m) plan' scratch' →
       write_refusal_under a.lawless test (minmax_fields a.N a.Q number B a.weights m) plan' room ≡ when (ltb room (file_length a.N)) refusal.Buffer
   minmax_written_under room m (unsound {r = r} u e f g) = absurd (answered_or_refused r e)
   minmax_written_under room m (no_sequence o n e f g) = absurd (answered_or_refused refusal.NoSequence e)
@@ -230,7 +229,7 @@ module _ {a : Asked} {test : ℕ → ℕ → Bool} (tests : Tests test a.law) (n
       (minmax_rules o q number m (ap (λ (x : Reply). x.values) e)) (drop a.N plan) room)
 
   -- the file of an average plan that is given reads back, where the number fits its byte
-  pub average_read_back_under : (m : AveragePlan) → AveragePromise a B plan scratch (average_answer.Planned m) plan' scratch' → number < 256 → B < 2 ^ 64 →
+  pub average_read_back_under : (m : AveragePlan) → AveragePromise a B plan scratch (Ok m) plan' scratch' → number < 256 → B < 2 ^ 64 →
       ReadsBackUnder a.lawless test (average_fields a.N a.Q number B a.weights m) plan'
   average_read_back_under m p b h =
       let room : ℕ = file_length a.N in
@@ -238,7 +237,7 @@ module _ {a : Asked} {test : ℕ → ℕ → Bool} (tests : Tests test a.law) (n
       (room_enough _ room a.N (average_written_under room m p) (le_refl room)) b h
 
   -- and so does that of a minmax plan
-  pub minmax_read_back_under : (m : MinmaxPlan) → MinmaxPromise a B plan scratch (minmax_answer.Planned m) plan' scratch' → number < 256 → B < 2 ^ 64 →
+  pub minmax_read_back_under : (m : MinmaxPlan) → MinmaxPromise a B plan scratch (Ok m) plan' scratch' → number < 256 → B < 2 ^ 64 →
       ReadsBackUnder a.lawless test (minmax_fields a.N a.Q number B a.weights m) plan'
   minmax_read_back_under m p b h =
       let room : ℕ = file_length a.N in
@@ -252,30 +251,30 @@ module _ (N Q law : ℕ) (rates distortions weights : List ℕ) (plan_room scrat
   call = asking N Q law rates distortions weights plan_room scratch_room
 
   module _ {B : ℕ} {plan scratch plan' scratch' : List ℕ} where
-    pub average_written : (room : ℕ) (m : AveragePlan) → AveragePromise call B plan scratch (average_answer.Planned m) plan' scratch' →
+    pub average_written : (room : ℕ) (m : AveragePlan) → AveragePromise call B plan scratch (Ok m) plan' scratch' →
         write_refusal (average_fields N Q law B weights m) plan' room ≡ when (ltb room (file_length N)) refusal.Buffer
     average_written = average_written_under {a = call} (allows_law law) law
 
-    pub minmax_written : (room : ℕ) (m : MinmaxPlan) → MinmaxPromise call B plan scratch (minmax_answer.Planned m) plan' scratch' →
+    pub minmax_written : (room : ℕ) (m : MinmaxPlan) → MinmaxPromise call B plan scratch (Ok m) plan' scratch' →
         write_refusal (minmax_fields N Q law B weights m) plan' room ≡ when (ltb room (file_length N)) refusal.Buffer
     minmax_written = minmax_written_under {a = call} (allows_law law) law
 
     -- where there is room for the file, the writer refuses no average plan that is given
-    pub average_accepted : (room : ℕ) (m : AveragePlan) → AveragePromise call B plan scratch (average_answer.Planned m) plan' scratch' →
+    pub average_accepted : (room : ℕ) (m : AveragePlan) → AveragePromise call B plan scratch (Ok m) plan' scratch' →
         file_length N ≤ room → write_refusal (average_fields N Q law B weights m) plan' room ≡ none
     average_accepted room m p h = room_enough _ room N (average_written room m p) h
 
     -- and no minmax plan
-    pub minmax_accepted : (room : ℕ) (m : MinmaxPlan) → MinmaxPromise call B plan scratch (minmax_answer.Planned m) plan' scratch' →
+    pub minmax_accepted : (room : ℕ) (m : MinmaxPlan) → MinmaxPromise call B plan scratch (Ok m) plan' scratch' →
         file_length N ≤ room → write_refusal (minmax_fields N Q law B weights m) plan' room ≡ none
     minmax_accepted room m p h = room_enough _ room N (minmax_written room m p) h
 
     -- the file of an average plan that is given reads back
-    pub average_read_back : (m : AveragePlan) → AveragePromise call B plan scratch (average_answer.Planned m) plan' scratch' → B < 2 ^ 64 →
+    pub average_read_back : (m : AveragePlan) → AveragePromise call B plan scratch (Ok m) plan' scratch' → B < 2 ^ 64 →
         ReadsBack (average_fields N Q law B weights m) plan'
     average_read_back m p h = reads_back _ plan' (file_length N) (average_accepted (file_length N) m p (le_refl (file_length N))) h
 
     -- and so does that of a minmax plan
-    pub minmax_read_back : (m : MinmaxPlan) → MinmaxPromise call B plan scratch (minmax_answer.Planned m) plan' scratch' → B < 2 ^ 64 →
+    pub minmax_read_back : (m : MinmaxPlan) → MinmaxPromise call B plan scratch (Ok m) plan' scratch' → B < 2 ^ 64 →
         ReadsBack (minmax_fields N Q law B weights m) plan'
     minmax_read_back m p h = reads_back _ plan' (file_length N) (minmax_accepted (file_length N) m p (le_refl (file_length N))) h

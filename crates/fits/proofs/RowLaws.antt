@@ -1,47 +1,14 @@
--- A row, setting by setting, and a scan, row by row. Assumes nothing.
-use mathlib.Core.Path.{◌≡◌, refl, ap, ◌∙◌}
+-- A scan, row by row. Assumes nothing.
+use mathlib.Core.Path.{◌≡◌, ◌∙◌}
 use mathlib.Core.Logic.{◌⊎◌, inl, inr}
 use mathlib.Core.List.{List}
-use Prim.Native.Nat.{ℕ, zero, suc, ◌+◌, ◌-◌, ◌*◌, ◌≤◌, ◌<◌, min}
+use Prim.Native.Nat.{ℕ, ◌+◌, ◌*◌, ◌≤◌, ◌<◌, min}
 use native.Mathlib.Decide.{ℕ_discrete, dec_lt}
 use native.Mathlib.Omega.{arith}
-use lib.ListN.{length, get_or, set, length-set}
-use lib.Seq.{get_or-set_same, get_or-set_other}
-use Rattle.laws.proofs.Tests.{cases}
+use lib.ListN.{length, get_or}
 use Rattle.tables.specs.Limits.{over_total}
-use Rattle.tables.specs.Law.{Law, Follows, SideBySide}
+use Rattle.tables.specs.Law.{Law, SideBySide}
 use Rattle.fits.specs.Reach.{comes_to, RowTaken, ScanTaken}
-
--- at scan 0 every setting may follow, and at a later one those that the law lets
-pub all_follow : (law : Law) (scan p Q : ℕ) → scan ≡ 0 → SideBySide (Follows law scan) p Q 0 Q
-all_follow law zero p Q e = record {
-  order = omega arith;
-  inside = omega arith;
-  reached = λ q h f. (omega arith, h);
-  allowed = λ q h g. tt;
-}
-all_follow law (suc scan) p Q e = absurd (omega arith)
-
-pub law_follows : (law : Law) (scan p Q from to : ℕ) → (scan ≡ 0 → ⊥) → SideBySide law p Q from to → SideBySide (Follows law scan) p Q from to
-law_follows law zero p Q from to n s = absurd (n refl)
-law_follows law (suc scan) p Q from to n s = s
-
-module _ (rates : List ℕ) (at before from : ℕ) where
-  pub row_none : (l : List ℕ) → RowTaken rates at before from from l l
-  row_none l = record { inside = λ q h g. absurd (omega arith); outside = λ q h. refl; long = refl }
-
-  -- one setting more
-  pub row_more : {q v : ℕ} {l₀ l : List ℕ} → from ≤ q → q < length l → v ≡ min (get_or l q 0) (comes_to before (get_or rates (at + q) 0)) →
-      RowTaken rates at before from q l₀ l → RowTaken rates at before from (q + 1) l₀ (set l q v)
-  row_more {q} {v} {l₀} {l} b h e t = record {
-    inside = λ r x y. of r x y (ℕ_discrete r q);
-    outside = λ r x. get_or-set_other l q r v 0 (λ z. x (omega arith) (omega arith)) ∙ t.outside r (λ y z. x y (omega arith));
-    long = length-set l q v ∙ t.long;
-  }
-    where
-      of : (r : ℕ) → from ≤ r → r < q + 1 → Dec (r ≡ q) → get_or (set l q v) r 0 ≡ min (get_or l₀ r 0) (comes_to before (get_or rates (at + r) 0))
-      of r x y (yes z) = rw z (get_or-set_same l q v 0 h ∙ e ∙ ap (λ (k : ℕ). min k (comes_to before (get_or rates (at + q) 0))) (t.outside q (λ a b. omega arith)))
-      of r x y (no z) = get_or-set_other l q r v 0 z ∙ t.inside r x (omega arith)
 
 module _ (follows : Law) (rates : List ℕ) (Q at : ℕ) (least : List ℕ) where
   pub scan_none : (l : List ℕ) → length l ≡ 16 → ((q : ℕ) → q < Q → get_or l q 0 ≡ over_total) → ScanTaken follows rates Q at 0 least l
@@ -100,8 +67,3 @@ module _ (follows : Law) (rates : List ℕ) (Q at : ℕ) (least : List ℕ) wher
         found q h g (inl x) (yes d) = (p, omega arith, x.0, omega (arith, x.1))
         found q h g (inl x) (no d) = stays q h (omega (arith, x.1)) g
         found q h g (inr x) d = stays q h x.1 g
-
--- past the last total that is within the limit: one more of those from the end on is not
-pub past_more : {m limit count : ℕ} (least : List ℕ) → limit < get_or least (count - 1) 0 → ((q : ℕ) → count ≤ q → q < m → limit < get_or least q 0) →
-    (q : ℕ) → count - 1 ≤ q → q < m → limit < get_or least q 0
-past_more {count = count} least h f q g l = cases q count (λ u. let e : q ≡ count - 1 = omega arith in rw e h) (λ u. f q u l)

@@ -1,5 +1,5 @@
 -- Document 02, [7], "Can it fit at all?", quickly: which scans are read, and what the call promises. Assumes nothing.
-use Rattle.std.specs.Prelude.{◌≡◌, Bool, List, [], ◌∷◌, ℕ, suc, ◌<◌}
+use Rattle.std.specs.Prelude.{◌≡◌, Bool, true, false, Result, Ok, Err, List, [], ◌∷◌, ℕ, suc, ◌<◌}
 use Rattle.std.proofs.Math.Option.{Option, none, some}
 use Rattle.criteria.specs.Choice.{Problem, InBudget}
 use Rattle.tables.specs.declared.refusal.Refusal.{Refusal}
@@ -12,8 +12,6 @@ use Rattle.tables.specs.Legal.{AllLegal, no_weights}
 use Rattle.legal.specs.Judged.{LegalRun, LowestInRun}
 use Rattle.checks.specs.Checks.{first_refusal}
 use Rattle.checks.specs.Planning.{plain_checks}
-use Rattle.fits.specs.declared.call.FitsAnswer.{FitsAnswer}
-use Rattle.fits.specs.declared.call.FitsAnswer.TheVariants as fits_answer
 
 -- What is asked: "whether some plan fits B". Of its law a question holds which pairs it allows, and whether it is none of those that the call
 -- takes; no number, so what is said of questions is said of any law.
@@ -100,10 +98,14 @@ says_yes = answered (1 ∷ [])
 abbrev pub says_no : Reply
 says_no = answered (0 ∷ [])
 
+-- what the call answers, in code
+abbrev pub FitsAnswer : Type 0
+FitsAnswer = Result Bool Refusal
+
 abbrev pub fits_reply : FitsAnswer → Reply
-fits_reply fits_answer.Yes = says_yes
-fits_reply fits_answer.No = says_no
-fits_reply (fits_answer.Refused r) = refused r
+fits_reply (Ok true) = says_yes
+fits_reply (Ok false) = says_no
+fits_reply (Err r) = refused r
 
 -- The promise of the call, by cases.
 pub data FitsPromise (a : Question) : Reply → Type 0 where

@@ -2,5 +2,6 @@
 // rate with which a beginning ends in it, and needs neither scratch nor weights.
 #![tactic(auto)]
 
+pub mod asked;
 pub mod call;
 pub mod step;

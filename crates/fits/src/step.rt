@@ -1,45 +1,34 @@
 // One scan of the pass: from the least rates before it to those behind it.
-ghost use Rattle.std.specs.Prelude.{◌≡◌, ℕ, ◌+◌, ◌*◌, ◌≤◌, ◌<◌, min, length, get_or};
+ghost use Rattle.std.specs.Prelude.{◌≡◌, ℕ, ◌+◌, ◌*◌, ◌≤◌, ◌<◌, length, get_or};
 ghost use Rattle.tables.specs.Limits.{most_settings, over_total};
 ghost use Rattle.tables.specs.Law.{law_of, Follows, SideBySide};
 ghost use Rattle.fits.specs.Reach.{RowTaken, ScanTaken, LastWithin};
 
-use tables::law::{Span, run};
+use std::ops::Range;
+use tables::law::run;
 use tables::limits::OVER_TOTAL;
 
-fn lesser(x: u32, y: u32) -> u32
-    ensures { result ≡ min x y }
+// One row: the settings of the span after one that `before` leads to. Its cells stand from `at` on, and no other is read.
+fn row(rates: &[u32], at: usize, before: u32, span: Range<usize>, least: &mut [u32; 16])
+    requires { (span.start ≤ span.end) × ((span.end ≤ most_settings) × ((at + span.end ≤ length rates.now) × (before ≤ over_total))) }
+    ensures { RowTaken rates.now at before span.start span.end least.old least.new }
 {
-    if x < y {
-        return x;
-    }
-    y
-}
-
-// One row: the settings from `from` up to `to` after one that `before` leads to. Its cells stand from `at` on, and no other is read.
-fn row(rates: &[u32], at: usize, before: u32, from: usize, to: usize, least: &mut [u32; 16])
-    requires { (from ≤ to) × ((to ≤ most_settings) × ((at + to ≤ length rates.now) × ((before ≤ over_total) × (length least.old ≡ 16)))) }
-    ensures { RowTaken rates.now at before from to least.old least.new }
-{
-    for q in from..to {
-        let sum = before + lesser(rates[at + q], OVER_TOTAL);
-        let stands = least[q];
-        least[q] = lesser(stands, sum);
+    for q in span.start..span.end {
+        let sum = before + rates[at + q].min(OVER_TOTAL);
+        least[q] = least[q].min(sum);
     }
 }
 
 // The settings that may follow one at a scan: at scan 0 all.
-fn following(scan: usize, law: u64, before: usize, settings: usize) -> Span
+fn following(scan: usize, law: u64, before: usize, settings: usize) -> Range<usize>
     requires { (before < settings) × (settings ≤ most_settings) }
-    ensures { SideBySide (Follows (law_of law) scan) before settings result.from result.to }
+    ensures { SideBySide (Follows (law_of law) scan) before settings result.start result.end }
 {
     if scan == 0 {
-        return Span {
-            from: 0,
-            to: settings,
-        };
+        0..settings
+    } else {
+        run(law, before, settings)
     }
-    run(law, before, settings)
 }
 
 // A scan whose cells stand from `at` on, in a row for each setting before it: the first rows of it, since those behind them lead nowhere.
@@ -58,16 +47,8 @@ pub fn step(
 {
     let mut next = [OVER_TOTAL; 16];
     for p in 0..rows {
-        let before = least[p];
         let span = following(scan, law, p, settings);
-        row(
-            rates,
-            at + p * settings,
-            before,
-            span.from,
-            span.to,
-            &mut next,
-        );
+        row(rates, at + p * settings, least[p], span, &mut next);
     }
     next
 }
@@ -77,12 +58,8 @@ pub fn last_within(least: &[u32; 16], settings: usize, limit: u32) -> usize
     requires { settings ≤ most_settings }
     ensures { LastWithin settings limit least.now result }
 {
-    let mut count = settings;
-    while 0 < count {
-        if least[count - 1] <= limit {
-            return count;
-        }
-        count -= 1;
-    }
-    0
+    least[..settings]
+        .iter()
+        .rposition(|total| *total <= limit)
+        .map_or(0, |last| last + 1)
 }

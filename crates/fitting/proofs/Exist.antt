@@ -1,12 +1,13 @@
 -- Every question has an answer that keeps the promise, under any law that has a test: its cases are exhaustive. Assumes nothing.
 use mathlib.Core.Path.{◌≡◌, refl}
 use mathlib.Core.Logic.{◌⊎◌, inl, inr}
-use mathlib.Core.Bool.{Bool}
+use mathlib.Core.Bool.{Bool, true, false}
 use mathlib.Core.Option.{Option, none, some}
 use mathlib.Core.List.{List, []}
 use Prim.Native.Nat.{ℕ, zero, suc, ◌+◌, ◌≤◌, ◌<◌}
 use native.Mathlib.Decide.{dec_le}
 use native.Mathlib.Omega.{arith}
+use Rattle.std.specs.Prelude.{Ok, Err}
 use Rattle.laws.proofs.Tests.{cases}
 use Rattle.criteria.specs.Choice.{Problem, InBudget}
 use Rattle.criteria.proofs.Decide.{dec_×}
@@ -21,7 +22,6 @@ use Rattle.tables.proofs.Listing.{table_finite}
 use Rattle.tables.proofs.Beginnings.{way_alike}
 use Rattle.tables.proofs.CellLaws.{scans_end}
 use Rattle.legal.proofs.LegalLaws.{lowest_or_run, all_of_run}
-use Rattle.fits.specs.declared.call.FitsAnswer.TheVariants as fits_answer
 use Rattle.fits.specs.Fits.{Question, series_asked, Beginning, LegalScan, LowestOfScan, IsRead, fits_refusal, early, seven, none_fits, one_fits}
 use Rattle.fits.proofs.ReadLaws.{ready, lengths_right, scans_legal}
 use Rattle.fitting.specs.Fitting.{SomeFits}
@@ -50,7 +50,7 @@ module _ (a : Question) {test : ℕ → ℕ → Bool} (tests : Tests test a.law)
     -- from scan k on, of which n are left
     onward : (n k : ℕ) → k + n ≡ a.N → ((j : ℕ) → j < k → LegalScan a j) → (s : List ℕ) × Beginning a k s → SomeFits a
     onward zero k e l b = record {
-      answer = fits_answer.Yes;
+      answer = Ok true;
       promised = one_fits (record {
         passed = passed;
         legal = all_of_run no_weights a.rates a.distortions (omega (arith, (lengths_right a passed).0, scans_end a.N a.Q (ready a passed).some_scans)) (scans_legal a a.N (λ j h. l j (omega arith)));
@@ -66,13 +66,13 @@ module _ (a : Question) {test : ℕ → ℕ → Bool} (tests : Tests test a.law)
 
         judged : ((c : ℕ) × LowestOfScan a k c) ⊎ LegalScan a k → ((s : List ℕ) × Beginning a (suc k) s) ⊎ ((s : List ℕ) → Beginning a (suc k) s → ⊥) →
             (((j : ℕ) → j < suc k → LegalScan a j) → (s : List ℕ) × Beginning a (suc k) s → SomeFits a) → SomeFits a
-        judged (inl f) d next = record { answer = fits_answer.Refused (refusal.Cell f.0); promised = seven {c = f.0} (record { passed = passed; scan = k; read = read; lowest = f.1 }) }
+        judged (inl f) d next = record { answer = Err (refusal.Cell f.0); promised = seven {c = f.0} (record { passed = passed; scan = k; read = read; lowest = f.1 }) }
         judged (inr w) (inl s) next = next (λ j h. cases j k (λ u. l j u) (λ u. let e : j ≡ k = omega arith in rw e w)) s
-        judged (inr w) (inr o) next = record { answer = fits_answer.No; promised = none_fits (record { passed = passed; scan = k; read = read; legal = w; over = o }) }
+        judged (inr w) (inr o) next = record { answer = Ok false; promised = none_fits (record { passed = passed; scan = k; read = read; legal = w; over = o }) }
 
   pub fits_some : SomeFits a
   fits_some = of (fits_refusal a) refl
     where
       of : (o : Option Refusal) → fits_refusal a ≡ o → SomeFits a
-      of (some r) e = record { answer = fits_answer.Refused r; promised = early {r = r} e }
+      of (some r) e = record { answer = Err r; promised = early {r = r} e }
       of none e = onward e a.N 0 (omega arith) (λ j h. absurd (omega arith)) ([], record { long = refl; kept = tt; fits = omega arith })

@@ -17,8 +17,7 @@ use Rattle.tables.specs.Legal.{LegalDistortion, LegalBeside, AllLegal, no_weight
 use Rattle.tables.proofs.Beginnings.{way_alike}
 use Rattle.checks.specs.Planning.{Asked, Sound, table_of, problem_of, weigh_of, lengths_out, weights_out}
 use Rattle.checks.proofs.PlanningLaws.{fronted_none, sound_front, sound_or_not}
-use Rattle.promise.specs.declared.AverageAnswer.{AverageAnswer}
-use Rattle.promise.specs.declared.MinmaxAnswer.{MinmaxAnswer}
+use Rattle.promise.specs.Answers.{MinmaxAnswer, AverageAnswer}
 use Rattle.promise.specs.Promise.{AveragePromise, MinmaxPromise, average_reply, minmax_reply}
 use Rattle.promise.proofs.Unique.{average_within, minmax_within}
 use Rattle.promise.proofs.Verdict.{Verdict, verdict}

@@ -1,11 +1,13 @@
 -- One answer for equal inputs, and each exactly when it is so. Assumes nothing.
 use mathlib.Core.Path.{◌≡◌, refl, sym, ap, ◌∙◌}
+use mathlib.Core.Bool.{true, false}
 use mathlib.Core.Option.{none, some}
 use mathlib.Core.List.{List}
 use Prim.Native.Nat.{ℕ, suc, ◌≤◌, ◌<◌}
 use native.Mathlib.Decide.{dec_lt, ℕ_discrete}
 use native.Mathlib.Omega.{arith}
 use lib.ListN.{get_or}
+use Rattle.std.specs.Prelude.{Ok, Err}
 use Rattle.laws.proofs.Tests.{never}
 use Rattle.tables.specs.declared.refusal.Refusal.{Refusal}
 use Rattle.tables.specs.declared.refusal.Refusal.TheVariants as refusal
@@ -20,9 +22,7 @@ use Rattle.legal.proofs.LegalLaws.{run_unique}
 use Rattle.checks.specs.Checks.{zero_or_over}
 use Rattle.checks.specs.Planning.{settings_out, lengths_out, plain_checks}
 use Rattle.checks.proofs.GiveLaws.{given, gives_when, gives_first}
-use Rattle.fits.specs.declared.call.FitsAnswer.{FitsAnswer}
-use Rattle.fits.specs.declared.call.FitsAnswer.TheVariants as fits_answer
-use Rattle.fits.specs.Fits.{Question, series_asked, Beginning, LegalScan, IsRead, fits_refusal, Seven, NoneFits, OneFits, says_yes, says_no, fits_reply, FitsPromise, early, seven, none_fits, one_fits}
+use Rattle.fits.specs.Fits.{FitsAnswer, Question, series_asked, Beginning, LegalScan, IsRead, fits_refusal, Seven, NoneFits, OneFits, says_yes, says_no, fits_reply, FitsPromise, early, seven, none_fits, one_fits}
 use Rattle.fits.proofs.ReadLaws.{lengths_right}
 use Rattle.fitting.specs.Fitting.{FitsExactly}
 
@@ -91,15 +91,15 @@ yes_not_no e = omega (arith, ap (λ (x : Reply). get_or x.values 0 0) e)
 
 -- answers that reply alike are the same
 pub fits_answer_unique : (r r' : FitsAnswer) → fits_reply r ≡ fits_reply r' → r ≡ r'
-fits_answer_unique fits_answer.Yes fits_answer.Yes e = refl
-fits_answer_unique fits_answer.Yes fits_answer.No e = absurd (yes_not_no e)
-fits_answer_unique fits_answer.Yes (fits_answer.Refused r) e = absurd (answered_or_refused r e)
-fits_answer_unique fits_answer.No fits_answer.Yes e = absurd (yes_not_no (sym e))
-fits_answer_unique fits_answer.No fits_answer.No e = refl
-fits_answer_unique fits_answer.No (fits_answer.Refused r) e = absurd (answered_or_refused r e)
-fits_answer_unique (fits_answer.Refused r) fits_answer.Yes e = absurd (answered_or_refused r (sym e))
-fits_answer_unique (fits_answer.Refused r) fits_answer.No e = absurd (answered_or_refused r (sym e))
-fits_answer_unique (fits_answer.Refused r) (fits_answer.Refused r') e = ap fits_answer.Refused (refused_unique e)
+fits_answer_unique (Ok true) (Ok true) e = refl
+fits_answer_unique (Ok true) (Ok false) e = absurd (yes_not_no e)
+fits_answer_unique (Ok true) (Err r) e = absurd (answered_or_refused r e)
+fits_answer_unique (Ok false) (Ok true) e = absurd (yes_not_no (sym e))
+fits_answer_unique (Ok false) (Ok false) e = refl
+fits_answer_unique (Ok false) (Err r) e = absurd (answered_or_refused r e)
+fits_answer_unique (Err r) (Ok true) e = absurd (answered_or_refused r (sym e))
+fits_answer_unique (Err r) (Ok false) e = absurd (answered_or_refused r (sym e))
+fits_answer_unique (Err r) (Err r') e = ap Err (refused_unique e)
 
 pub fits_settled : {a : Question} (r r' : FitsAnswer) → FitsPromise a (fits_reply r) → FitsPromise a (fits_reply r') → r ≡ r'
 fits_settled r r' h h' = fits_answer_unique r r' (fits_unique h h')

@@ -7,8 +7,7 @@ use Rattle.tables.specs.declared.refusal.Refusal.TheVariants as refusal
 use Rattle.tables.specs.Refusals.{Reply, refused, number_of}
 use Rattle.tables.specs.Tables.{scan_start}
 use Rattle.checks.specs.Planning.{Asked}
-use Rattle.fits.specs.declared.call.FitsAnswer.{FitsAnswer}
-use Rattle.fits.specs.Fits.{Question, question_under, IsRead, fits_refusal, Seven, NoneFits, OneFits, says_yes, says_no, fits_reply, FitsPromise}
+use Rattle.fits.specs.Fits.{FitsAnswer, Question, question_under, IsRead, fits_refusal, Seven, NoneFits, OneFits, says_yes, says_no, fits_reply, FitsPromise}
 
 -- each case of the promise is the answer exactly when it is so
 pub record FitsExactly (a : Question) (reply : Reply) : Type 0 where

@@ -1,7 +1,7 @@
 -- The floor and the lowest terms, as the code computes them. Assumes nothing.
-use mathlib.Core.Path.{◌≡◌, refl, sym, ap}
+use mathlib.Core.Path.{◌≡◌, refl, ap}
 use Prim.Native.Nat.{ℕ, ◌+◌, ◌-◌, ◌*◌, ◌/◌, ◌≤◌, ◌<◌, ◌^◌}
-use native.Mathlib.Nat.{mul-le-mul_right, div-le_self, dvd-mul_left, pos_of_dvd_of_pos, mul-div_cancel', div-eq_of_lt}
+use native.Mathlib.Nat.{mul-le-mul_right, div-le_self, dvd-mul_left, pos_of_dvd_of_pos, mul-div_cancel'}
 use native.Mathlib.Omega.{arith}
 use Rattle.criteria.specs.Choice.{Floor}
 use Rattle.criteria.specs.Fraction.{gcd}
@@ -24,12 +24,6 @@ small_terms n d = (div-le_self n (gcd n d), div-le_self d (gcd n d))
 -- the floor, as the code computes it
 pub floor_by : {n d B D R c F : ℕ} → 1 ≤ d → c ≡ d * D + n * R → F ≡ (c - n * B + (d - 1)) / d → Floor n d B D R F
 floor_by {n} {d} {B} {D} {R} h e f = rw (f, e) (floor_value n d B D R h)
-
--- a cost that the budget buys leaves no floor
-pub floor_none : (c b d : ℕ) → c < b → 1 ≤ d → 0 ≡ (c - b + (d - 1)) / d
-floor_none c b d h l =
-    let e : c - b + (d - 1) ≡ d - 1 = omega arith in
-    rw e (sym (div-eq_of_lt (omega arith)))
 
 -- what a smaller multiplier buys
 pub bought_small : {n n' : ℕ} (B : ℕ) → n' ≤ n → n * B < 2 ^ 64 → n' * B < 2 ^ 64

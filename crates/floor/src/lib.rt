@@ -2,7 +2,7 @@
 #![tactic(auto)]
 
 ghost use Rattle.std.specs.Prelude.{◌≡◌, ◌+◌, ◌-◌, ◌*◌, ◌/◌, ◌≤◌, ◌<◌, ◌^◌};
-ghost use Rattle.tables.specs.Limits.{most_term, most_total};
+ghost use Rattle.tables.specs.Limits.{most_total};
 ghost use Rattle.floor.specs.Reduced.{Reduced};
 
 use keys::cost::{Amount, Dist, Ratio, cost};
@@ -11,35 +11,30 @@ use tables::common::common;
 use walk::Totals;
 
 // The least F with d × F + n × B at least the cost.
-fn floor(amount: Amount, n: u64, d: u64, budget: u64) -> Dist
-    requires { (1 ≤ d) × ((amount.0 + d < 2 ^ 64) × (n * budget < 2 ^ 64)) }
-    ensures { result.0 ≡ (amount.0 - n * budget + (d - 1)) / d }
+fn floor(amount: Amount, at: Ratio, budget: u64) -> Dist
+    requires { (amount.0 + at.d < 2 ^ 64) × (at.n * budget < 2 ^ 64) }
+    ensures { result.0 ≡ (amount.0 - at.n * budget + (at.d - 1)) / at.d }
 {
-    let bought = n * budget;
-    if amount.0 < bought {
-        return Dist(0);
-    }
-    Dist((amount.0 - bought + (d - 1)) / d)
+    let over = amount.0.saturating_sub(at.n * budget);
+    Dist((over + (at.d - 1)) / at.d)
 }
 
 // The answer at n/d: in lowest terms, with the floor.
-pub fn answer(n: u64, d: u64, budget: u64, totals: Totals) -> AveragePlan
-    requires n_le_most_term { (n ≤ most_term) × ((1 ≤ d) × (d ≤ most_term)) }
+pub fn answer(at: Ratio, budget: u64, totals: Totals) -> AveragePlan
     requires rate_le_most_total { (totals.rate.0 ≤ most_total) × (totals.distortion.0 ≤ most_total) }
-    requires budget_bound { n * budget < 2 ^ 64 }
-    ensures { Reduced n d budget totals result }
+    requires budget_bound { at.n * budget < 2 ^ 64 }
+    ensures { Reduced at.n at.d budget totals result }
 {
-    let g = common(n, d);
-    let lowest = Ratio { n: n / g, d: d / g };
+    let g = common(at.n, at.d);
+    let lowest = Ratio {
+        n: at.n / g,
+        d: at.d / g,
+    };
+    let amount = cost(totals.rate, totals.distortion, lowest.n, lowest.d);
     AveragePlan {
         n: lowest.n,
         d: lowest.d,
-        floor: floor(
-            cost(totals.rate, totals.distortion, lowest.n, lowest.d),
-            lowest.n,
-            lowest.d,
-            budget,
-        ),
+        floor: floor(amount, lowest, budget),
         totals,
     }
 }

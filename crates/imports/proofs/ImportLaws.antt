@@ -141,23 +141,22 @@ module _ (N Q : ℕ) (text rates distortions scratch : List ℕ) where
   unfolding import_refusal
   by_parts {a} {b} p q = ap (λ (x : Option Refusal). or_else x (first_fault N Q 1 [] (lines text))) p ∙ ap (or_else a) q
 
-  pub ended_early : (o : Option Refusal) {w : Refusal} → o ≡ some w → o ≡ checked → Ended N Q text rates distortions scratch o rates distortions scratch
-  ended_early o {w} e h =
-      let c : checked ≡ some w = sym h ∙ e in
-      let r = by_parts c refl in
+  pub ended_early : {w : Refusal} → some w ≡ checked → Ended N Q text rates distortions scratch (some w) rates distortions scratch
+  ended_early h =
+      let r = by_parts (sym h) refl in
       record {
-        answer = e ∙ sym r;
+        answer = sym r;
         rates_are = sym (ap (λ (x : Option Refusal). rates_after x N Q text rates) r);
         distortions_are = sym (ap (λ (x : Option Refusal). distortions_after x N Q text distortions) r);
-        scratch_is = sym (ap (λ (x : Option Refusal). scratch_after x N Q scratch) c);
+        scratch_is = ap (λ (x : Option Refusal). scratch_after x N Q scratch) h;
       }
 
-  pub ended_judged : (o : Option Refusal) {w : Refusal} {scratch' : List ℕ} → checked ≡ none → o ≡ some w → o ≡ first_fault N Q 1 [] (lines text) →
-      scratch' ≡ filled (cells N Q) 0 scratch → Ended N Q text rates distortions scratch o rates distortions scratch'
-  ended_judged o {w} c e h s =
-      let r = by_parts c (sym h ∙ e) in
+  pub ended_judged : {w : Refusal} {scratch' : List ℕ} → checked ≡ none → some w ≡ first_fault N Q 1 [] (lines text) →
+      scratch' ≡ filled (cells N Q) 0 scratch → Ended N Q text rates distortions scratch (some w) rates distortions scratch'
+  ended_judged c h s =
+      let r = by_parts c (sym h) in
       record {
-        answer = e ∙ sym r;
+        answer = sym r;
         rates_are = sym (ap (λ (x : Option Refusal). rates_after x N Q text rates) r);
         distortions_are = sym (ap (λ (x : Option Refusal). distortions_after x N Q text distortions) r);
         scratch_is = s ∙ sym (ap (λ (x : Option Refusal). scratch_after x N Q scratch) c);

@@ -6,6 +6,7 @@ use mathlib.Core.Option.{Option, none, some}
 use mathlib.Core.List.{List, [], ◌∷◌}
 use Prim.Native.Nat.{ℕ, suc, ◌+◌, ◌≤◌, ◌<◌, min}
 use native.Mathlib.Decide.{ℕ_discrete}
+use native.Mathlib.Numerals.{add-one}
 use native.Mathlib.Omega.{arith}
 use lib.Dec.{eqb, ltb, leb}
 use lib.ListN.{length, get_or, set, drop, length-set}
@@ -20,11 +21,10 @@ use Rattle.tables.proofs.CellLaws.{cell_inside}
 use Rattle.checks.specs.Checks.{when, or_else, first_refusal}
 use Rattle.lines.specs.declared.says.Entry.{Entry}
 use Rattle.lines.specs.Text.{lines}
-use Rattle.lines.specs.Said.{says_of}
-use Rattle.lines.specs.Parts.{LineEnds}
-use Rattle.lines.proofs.LineLaws.{lines_go_on, no_lines}
 use Rattle.imports.specs.Import.{cell_of, out_of_range, member, fault, seen_with, first_fault}
+use Rattle.imports.specs.Left.{said_by}
 use Rattle.imports.specs.Parts.{Marks, KeptBehind, LineJudged}
+use Rattle.imports.proofs.LeftLaws.{first_said, fault_said}
 
 -- the numbers of a line that are in range
 pub record InRange (N Q : ℕ) (e : Entry) : Type 0 where
@@ -132,72 +132,35 @@ module _ (N Q k : ℕ) (s : List ℕ) {said : Option Entry} where
           };
         }
 
--- what is known at place `at` of a text, before line k
-pub record JudgedSoFar (N Q : ℕ) (text scratch₀ scratch : List ℕ) (k at : ℕ) : Type 0 where
-  pub inside : at ≤ length text
-  pub count : k ≤ at + 1
+-- what is known before line k, where these are left
+pub record JudgedSoFar (N Q : ℕ) (text scratch₀ scratch : List ℕ) (k : ℕ) (left : List (Option Entry)) : Type 0 where
+  pub count : k + length left ≡ suc (length (said_by text))
   pub seen : List ℕ
   pub marks : Marks (cells N Q) scratch seen
-  pub same : first_fault N Q 1 [] (lines text) ≡ first_fault N Q k seen (lines (drop at text))
+  pub same : first_fault N Q 1 [] (lines text) ≡ first_said N Q k seen left
   pub kept : KeptBehind (cells N Q) scratch₀ scratch
 
-pub judging_starts : (N Q : ℕ) (text scratch : List ℕ) → Marks (cells N Q) scratch [] → JudgedSoFar N Q text scratch scratch 1 0
+pub judging_starts : (N Q : ℕ) (text scratch : List ℕ) → Marks (cells N Q) scratch [] → JudgedSoFar N Q text scratch scratch 1 (said_by text)
 judging_starts N Q text scratch m =
-    record { inside = omega arith; count = omega arith; seen = []; marks = m; same = refl; kept = kept_none scratch }
+    record { count = omega arith; seen = []; marks = m; same = fault_said N Q 1 [] (lines text); kept = kept_none scratch }
 
--- a line that is judged, and the place behind it
-pub record LineAt (text : List ℕ) (at end next : ℕ) : Type 0 where
-  pub further : at < next
-  pub inside : next ≤ length text
-  pub lines_are : lines (drop at text) ≡ slice at end text ∷ lines (drop next text)
-
-module _ {N Q : ℕ} {text scratch₀ scratch scratch' : List ℕ} {k at end next : ℕ} {o : Option Refusal}
-    (so_far : JudgedSoFar N Q text scratch₀ scratch k at) (line : LineAt text at end next)
-    (judged : LineJudged N Q k (cells N Q) (says_of (slice at end text)) scratch scratch' o) where
+module _ {N Q : ℕ} {text scratch₀ scratch scratch' : List ℕ} {k : ℕ} {said : Option Entry} {left : List (Option Entry)} {o : Option Refusal}
+    (so_far : JudgedSoFar N Q text scratch₀ scratch k (said ∷ left)) (judged : LineJudged N Q k (cells N Q) said scratch scratch' o) where
   -- what is found from this line on
-  from_here : first_fault N Q 1 [] (lines text) ≡ or_else o (first_fault N Q (suc k) (seen_with Q (says_of (slice at end text)) so_far.seen) (lines (drop next text)))
+  from_here : first_fault N Q 1 [] (lines text) ≡ or_else o (first_said N Q (suc k) (seen_with Q said so_far.seen) left)
   from_here =
-      so_far.same ∙ ap (first_fault N Q k so_far.seen) line.lines_are
-      ∙ ap (λ (x : Option Refusal). or_else x (first_fault N Q (suc k) (seen_with Q (says_of (slice at end text)) so_far.seen) (lines (drop next text))))
-      (sym (judged.found so_far.seen so_far.marks))
+      so_far.same ∙ ap (λ (x : Option Refusal). or_else x (first_said N Q (suc k) (seen_with Q said so_far.seen) left)) (sym (judged.found so_far.seen so_far.marks))
 
   -- a fault is the first
   pub judging_stops : {r : Refusal} → o ≡ some r → o ≡ first_fault N Q 1 [] (lines text)
-  judging_stops e =
-      e ∙ sym (from_here ∙ ap (λ (x : Option Refusal). or_else x (first_fault N Q (suc k) (seen_with Q (says_of (slice at end text)) so_far.seen) (lines (drop next text)))) e)
+  judging_stops e = e ∙ sym (from_here ∙ ap (λ (x : Option Refusal). or_else x (first_said N Q (suc k) (seen_with Q said so_far.seen) left)) e)
 
   -- and without one it goes on
-  pub judging_goes_on : o ≡ none → JudgedSoFar N Q text scratch₀ scratch' (suc k) next
+  pub judging_goes_on : o ≡ none → JudgedSoFar N Q text scratch₀ scratch' (k + 1) left
   judging_goes_on e = record {
-    inside = line.inside;
-    count = omega (arith, so_far.count, line.further);
-    seen = seen_with Q (says_of (slice at end text)) so_far.seen;
+    count = omega (arith, so_far.count);
+    seen = seen_with Q said so_far.seen;
     marks = judged.marked so_far.seen so_far.marks e;
-    same = from_here ∙ ap (λ (x : Option Refusal). or_else x (first_fault N Q (suc k) (seen_with Q (says_of (slice at end text)) so_far.seen) (lines (drop next text)))) e;
+    same = rw add-one (from_here ∙ ap (λ (x : Option Refusal). or_else x (first_said N Q (suc k) (seen_with Q said so_far.seen) left)) e);
     kept = kept_on so_far.kept judged.kept;
   }
-
--- the end of the text
-pub judging_ends : {N Q : ℕ} {text scratch₀ scratch : List ℕ} {k at : ℕ} → JudgedSoFar N Q text scratch₀ scratch k at → length text ≤ at →
-    none ≡ first_fault N Q 1 [] (lines text)
-judging_ends {N} {Q} {text} {k = k} s h = sym (s.same ∙ ap (first_fault N Q k s.seen) (no_lines text h))
-
--- where the next line starts
-pub line_at : {text : List ℕ} {at end next : ℕ} → at < length text → LineEnds text at end → next ≡ min (end + 2) (length text) → LineAt text at end next
-line_at {text} {at} {end} {next} h e q = record {
-  further = omega (arith, e.order, e.inside);
-  inside = omega arith;
-  lines_are = lines_go_on h e ∙ ap (λ (l : List (List ℕ)). slice at end text ∷ l) (there (ltb (end + 2) (length text)) refl);
-}
-  where
-    there : (b : Bool) → ltb (end + 2) (length text) ≡ b → lines (drop (end + 2) text) ≡ lines (drop next text)
-    there true r =
-        let z : end + 2 ≡ next = omega (arith, ltb-true (end + 2) (length text) r) in
-        ap (λ (n : ℕ). lines (drop n text)) z
-    there false r =
-        let z = ltb-false (end + 2) (length text) r in
-        no_lines text {at = end + 2} z ∙ sym (no_lines text {at = next} (omega arith))
-
--- a line that starts here, and the place behind it
-pub line_there : {text : List ℕ} {at end : ℕ} → at < length text → LineEnds text at end → LineAt text at end (min (end + 2) (length text))
-line_there h e = line_at h e refl

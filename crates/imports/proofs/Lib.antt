@@ -1,5 +1,5 @@
 -- The laws of imports.
-pub mod RangeLaws
+pub mod LeftLaws
 pub mod JudgeLaws
 pub mod WriteLaws
 pub mod ImportLaws

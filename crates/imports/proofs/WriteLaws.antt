@@ -2,7 +2,7 @@
 use mathlib.Core.Path.{◌≡◌, refl, sym, ap, ◌∙◌}
 use mathlib.Core.Bool.{false}
 use mathlib.Core.Option.{Option, none, some}
-use mathlib.Core.List.{List, []}
+use mathlib.Core.List.{List, [], ◌∷◌}
 use Prim.Native.Nat.{ℕ, suc, ◌≤◌}
 use native.Mathlib.Omega.{arith}
 use lib.ListN.{length, set, drop, length-set}
@@ -12,10 +12,10 @@ use Rattle.checks.specs.Checks.{when}
 use Rattle.checks.proofs.CheckLaws.{none_else, none_when}
 use Rattle.lines.specs.declared.says.Entry.{Entry}
 use Rattle.lines.specs.Text.{lines}
-use Rattle.lines.specs.Said.{says_of}
-use Rattle.lines.proofs.LineLaws.{no_lines}
 use Rattle.imports.specs.Import.{cell_of, out_of_range, member, fault, seen_with, first_fault, with_said, rate_of, distortion_of, table_from}
-use Rattle.imports.proofs.JudgeLaws.{InRange, numbers_in_range, LineAt}
+use Rattle.imports.specs.Left.{said_by}
+use Rattle.imports.proofs.LeftLaws.{first_said, fault_said, table_said, from_said}
+use Rattle.imports.proofs.JudgeLaws.{InRange, numbers_in_range}
 
 -- a line without a fault says something, and that in range
 pub good_in_range : {N Q : ℕ} (k : ℕ) (seen : List ℕ) {e : Entry} (said : Option Entry) → said ≡ some e → fault N Q k seen said ≡ none → InRange N Q e
@@ -39,57 +39,39 @@ pub cell_written : (number : Entry → ℕ) (Q : ℕ) (t : List ℕ) {said : Opt
     set t at x ≡ with_said number Q t said
 cell_written number Q t {e = e} {x = x} is p q = ap (λ (k : ℕ). set t k x) p ∙ ap (set t (cell_of Q e)) q ∙ sym (ap (with_said number Q t) is)
 
--- what is known at place `at` of a text without a fault
-pub record WrittenSoFar (N Q : ℕ) (text rates₀ distortions₀ rates distortions : List ℕ) (at : ℕ) : Type 0 where
-  pub inside : at ≤ length text
+-- what is known of a text without a fault, where these lines are left
+pub record WrittenSoFar (N Q : ℕ) (text rates₀ distortions₀ rates distortions : List ℕ) (left : List (Option Entry)) : Type 0 where
   pub k : ℕ
   pub seen : List ℕ
-  pub none_left : first_fault N Q k seen (lines (drop at text)) ≡ none
-  pub rates_are : table_from rate_of Q rates₀ (lines text) ≡ table_from rate_of Q rates (lines (drop at text))
-  pub distortions_are : table_from distortion_of Q distortions₀ (lines text) ≡ table_from distortion_of Q distortions (lines (drop at text))
-  pub rates_long : length rates ≡ length rates₀
-  pub distortions_long : length distortions ≡ length distortions₀
+  pub none_left : first_said N Q k seen left ≡ none
+  pub rates_are : table_from rate_of Q rates₀ (lines text) ≡ table_said rate_of Q rates left
+  pub distortions_are : table_from distortion_of Q distortions₀ (lines text) ≡ table_said distortion_of Q distortions left
 
-pub writing_starts : (N Q : ℕ) (text rates distortions : List ℕ) → first_fault N Q 1 [] (lines text) ≡ none → WrittenSoFar N Q text rates distortions rates distortions 0
+pub writing_starts : (N Q : ℕ) (text rates distortions : List ℕ) → first_fault N Q 1 [] (lines text) ≡ none →
+    WrittenSoFar N Q text rates distortions rates distortions (said_by text)
 writing_starts N Q text rates distortions e = record {
-  inside = omega arith;
   k = 1;
   seen = [];
-  none_left = e;
-  rates_are = refl;
-  distortions_are = refl;
-  rates_long = refl;
-  distortions_long = refl;
+  none_left = sym (fault_said N Q 1 [] (lines text)) ∙ e;
+  rates_are = from_said rate_of Q rates (lines text);
+  distortions_are = from_said distortion_of Q distortions (lines text);
 }
 
-module _ {N Q : ℕ} {text rates₀ distortions₀ rates distortions : List ℕ} {at end next : ℕ}
-    (so_far : WrittenSoFar N Q text rates₀ distortions₀ rates distortions at) (line : LineAt text at end next) where
+module _ {N Q : ℕ} {text rates₀ distortions₀ rates distortions : List ℕ} {said : Option Entry} {left : List (Option Entry)}
+    (so_far : WrittenSoFar N Q text rates₀ distortions₀ rates distortions (said ∷ left)) where
   -- this line has no fault, and those behind it have none
-  both : (fault N Q so_far.k so_far.seen (says_of (slice at end text)) ≡ none)
-      × (first_fault N Q (suc so_far.k) (seen_with Q (says_of (slice at end text)) so_far.seen) (lines (drop next text)) ≡ none)
-  both =
-      none_else (fault N Q so_far.k so_far.seen (says_of (slice at end text))) _
-      (sym (ap (first_fault N Q so_far.k so_far.seen) line.lines_are) ∙ so_far.none_left)
+  both : (fault N Q so_far.k so_far.seen said ≡ none) × (first_said N Q (suc so_far.k) (seen_with Q said so_far.seen) left ≡ none)
+  both = none_else (fault N Q so_far.k so_far.seen said) _ so_far.none_left
 
-  pub no_fault : fault N Q so_far.k so_far.seen (says_of (slice at end text)) ≡ none
+  pub no_fault : fault N Q so_far.k so_far.seen said ≡ none
   no_fault = both.0
 
-  pub writing_goes_on : {rates' distortions' : List ℕ} → rates' ≡ with_said rate_of Q rates (says_of (slice at end text)) →
-      distortions' ≡ with_said distortion_of Q distortions (says_of (slice at end text)) → WrittenSoFar N Q text rates₀ distortions₀ rates' distortions' next
+  pub writing_goes_on : {rates' distortions' : List ℕ} → rates' ≡ with_said rate_of Q rates said → distortions' ≡ with_said distortion_of Q distortions said →
+      WrittenSoFar N Q text rates₀ distortions₀ rates' distortions' left
   writing_goes_on r d = record {
-    inside = line.inside;
     k = suc so_far.k;
-    seen = seen_with Q (says_of (slice at end text)) so_far.seen;
+    seen = seen_with Q said so_far.seen;
     none_left = both.1;
-    rates_are = so_far.rates_are ∙ ap (table_from rate_of Q rates) line.lines_are ∙ ap (λ (t : List ℕ). table_from rate_of Q t (lines (drop next text))) (sym r);
-    distortions_are = so_far.distortions_are ∙ ap (table_from distortion_of Q distortions) line.lines_are
-        ∙ ap (λ (t : List ℕ). table_from distortion_of Q t (lines (drop next text))) (sym d);
-    rates_long = ap length r ∙ length_with rate_of Q rates (says_of (slice at end text)) ∙ so_far.rates_long;
-    distortions_long = ap length d ∙ length_with distortion_of Q distortions (says_of (slice at end text)) ∙ so_far.distortions_long;
+    rates_are = so_far.rates_are ∙ ap (λ (t : List ℕ). table_said rate_of Q t left) (sym r);
+    distortions_are = so_far.distortions_are ∙ ap (λ (t : List ℕ). table_said distortion_of Q t left) (sym d);
   }
-
--- the end of the text
-pub writing_ends : {N Q : ℕ} {text rates₀ distortions₀ rates distortions : List ℕ} {at : ℕ} → WrittenSoFar N Q text rates₀ distortions₀ rates distortions at →
-    length text ≤ at → (rates ≡ table_from rate_of Q rates₀ (lines text)) × (distortions ≡ table_from distortion_of Q distortions₀ (lines text))
-writing_ends {N} {Q} {text} {rates = rates} {distortions = distortions} s h =
-    (sym (s.rates_are ∙ ap (table_from rate_of Q rates) (no_lines text h)), sym (s.distortions_are ∙ ap (table_from distortion_of Q distortions) (no_lines text h)))

@@ -3,4 +3,6 @@
 
 pub mod import;
 pub mod judge;
+pub mod left;
+pub mod size;
 pub mod write;

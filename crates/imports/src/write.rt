@@ -1,45 +1,38 @@
 // The second walk over a text that was judged: every line is written to its cell.
 ghost use Rattle.std.specs.Prelude.{◌≡◌, List, [], ℕ, ◌≤◌, length};
 ghost use Rattle.std.proofs.Math.Option.{none};
-ghost use Rattle.tables.specs.Limits.{most_scans, most_settings};
 ghost use Rattle.tables.specs.Tables.{cells};
 ghost use Rattle.lines.specs.Text.{lines};
-ghost use Rattle.lines.specs.Parts.{line_said};
+ghost use Rattle.lines.specs.Parts.{said};
 ghost use Rattle.imports.specs.Import.{fault, first_fault, with_said, rate_of, distortion_of, table_from};
 
-use lines::ends::behind;
-use lines::says::Line;
-use octets::cast::number_to_cell;
-use plain::line::line_at;
-use tables::cells::number;
+use crate::left::lines_of;
+use crate::size::Size;
+use lines::says::Entry;
 
 // One line that has no fault.
-fn write_line(scans: u64, settings: u64, line: Line, rates: &mut [u32], distortions: &mut [u32])
-    requires le_scans { (1 ≤ scans) × ((scans ≤ most_scans) × ((settings ≤ most_settings) × ((cells scans settings ≤ length rates.old) × (cells scans settings ≤ length distortions.old)))) }
-    requires by_index { (k : ℕ) × ((seen : List ℕ) × (fault scans settings k seen (line_said line) ≡ none)) }
-    ensures rates_after { rates.new ≡ with_said rate_of settings rates.old (line_said line) }
-    ensures distortions_after { distortions.new ≡ with_said distortion_of settings distortions.old (line_said line) }
+fn write_line(size: Size, line: Option<Entry>, rates: &mut [u32], distortions: &mut [u32])
+    requires room { (cells size.scans size.settings ≤ length rates.old) × (cells size.scans size.settings ≤ length distortions.old) }
+    requires faultless { (k : ℕ) × ((seen : List ℕ) × (fault size.scans size.settings k seen (said line) ≡ none)) }
+    ensures rates_after { rates.new ≡ with_said rate_of size.settings rates.old (said line) }
+    ensures distortions_after { distortions.new ≡ with_said distortion_of size.settings distortions.old (said line) }
 {
-    let Line::Says(e) = line else {
+    let Some(e) = line else {
         return;
     };
-    let at = number(settings, e.scan, e.previous, e.setting) as usize;
-    rates[at] = number_to_cell(e.rate);
-    distortions[at] = number_to_cell(e.distortion);
+    let at = size.cell_of(e);
+    rates[at] = e.rate as u32;
+    distortions[at] = e.distortion as u32;
 }
 
 // All lines, of which none has a fault.
-pub fn write(scans: u64, settings: u64, text: &[u8], rates: &mut [u32], distortions: &mut [u32])
-    requires le_scans { (1 ≤ scans) × ((scans ≤ most_scans) × ((settings ≤ most_settings) × ((cells scans settings ≤ length rates.old) × (cells scans settings ≤ length distortions.old)))) }
-    requires text_value { first_fault scans settings 1 [] (lines text.now) ≡ none }
-    ensures rates_after { rates.new ≡ table_from rate_of settings rates.old (lines text.now) }
-    ensures distortions_after { distortions.new ≡ table_from distortion_of settings distortions.old (lines text.now) }
+pub fn write(size: Size, text: &[u8], rates: &mut [u32], distortions: &mut [u32])
+    requires room { (cells size.scans size.settings ≤ length rates.old) × (cells size.scans size.settings ≤ length distortions.old) }
+    requires faultless { first_fault size.scans size.settings 1 [] (lines text.now) ≡ none }
+    ensures rates_after { rates.new ≡ table_from rate_of size.settings rates.old (lines text.now) }
+    ensures distortions_after { distortions.new ≡ table_from distortion_of size.settings distortions.old (lines text.now) }
 {
-    let mut at = 0;
-    while at < text.len() {
-        let found = line_at(text, at);
-        let line = found.line;
-        write_line(scans, settings, line, rates, distortions);
-        at = behind(found.end, text.len());
+    for line in lines_of(text) {
+        write_line(size, line, rates, distortions);
     }
 }

@@ -1,8 +1,8 @@
 -- The lowest terms of a fraction and the fraction just above them, by those of the remainder; and the weights that they give. Assumes nothing.
-use mathlib.Core.Path.{◌≡◌, refl, ap}
+use mathlib.Core.Path.{◌≡◌, ap}
 use mathlib.Core.Logic.{inl, inr}
 use Prim.Native.Nat.{ℕ, zero, suc, ◌+◌, ◌-◌, ◌*◌, ◌/◌, ◌%◌, ◌≤◌, ◌<◌}
-use native.Mathlib.Nat.{mul-le-mul_left, mul-le-mul_right, le_of_mul-le-mul_left, lt_of_mul-lt-mul_left, mod-add-div', mod-lt}
+use native.Mathlib.Nat.{mul-le-mul_left, mul-le-mul_right, le_of_mul-le-mul_left, lt_of_mul-lt-mul_left, mod-add-div'}
 use native.Mathlib.Omega.{arith}
 use Rattle.tables.specs.Limits.{most_total, most_term}
 use Rattle.keys.specs.OneKey.{Beside, Raised, Weighed}
@@ -12,9 +12,6 @@ use Rattle.keys.proofs.OneKeyLaws.{near}
 factor : (x y : ℕ) → 1 ≤ x * y → 1 ≤ x
 factor zero y h = absurd (omega arith)
 factor (suc x) y h = omega arith
-
-pub at_zero : (d : ℕ) → Beside 0 d d 0 1 1 0
-at_zero d = record { over = omega arith; under = omega arith; beside = refl; inside = omega arith }
 
 -- the step from r/n to n/d, where d is k n + r
 module _ (n d k r g r₀ n₀ x y : ℕ) (some : 1 ≤ d) (whole : k * n + r ≡ d) (b : Beside r n g r₀ n₀ x y) where
@@ -71,12 +68,6 @@ sizes d {n} {g} {r₀} {n₀} {x} {y} h b = record {
 pub next : (d : ℕ) {n g r₀ n₀ x y : ℕ} → 1 ≤ d → Beside (d % n) n g r₀ n₀ x y →
     Beside n d g n₀ (d / n * n₀ + r₀) (n₀ - y) (d / n * n₀ + r₀ - (x + d / n * y))
 next d {n} {g} {r₀} {n₀} {x} {y} h b = further n d (d / n) (d % n) g r₀ n₀ x y h (divided n d) b
-
-pub raised : (x y : ℕ) → 1 ≤ y → x ≤ most_total → Raised x y ((most_total - x) / y + 1)
-raised x y h l =
-    let e = mod-add-div' (most_total - x) y in
-    let m = mod-lt (most_total - x) {m = y} h in
-    record { far = omega arith; near = omega arith }
 
 -- the numerator of the fraction just above is at most one step up
 pub near_up : {n d g n₀ d₀ n' d' : ℕ} → Beside n d g n₀ d₀ n' d' → n' ≤ n₀ + 1

@@ -1,13 +1,13 @@
 // Weights a and b so that the order of a × distortion + b × rate is that of d × distortion + n × rate, and where that ties, of the rate:
 // b/a is a fraction just above n/d, so far out that no two sums fit between.
 ghost use Rattle.std.specs.Prelude.{◌+◌, ◌≤◌};
-ghost use Rattle.tables.specs.Limits.{most_term};
 ghost use Rattle.keys.specs.OneKey.{Beside, Raised, Weighed};
 
+use crate::cost::Ratio;
 use tables::limits::MOST_TOTAL;
 
 // A fraction: its common divisor, its lowest terms n/d, and a fraction up/down just above it.
-#[derive(Clone, Copy)]
+#[derive(Clone, Copy, Debug, PartialEq, Eq)]
 pub struct Terms {
     pub g: u64,
     pub n: u64,
@@ -17,21 +17,23 @@ pub struct Terms {
 }
 
 // The terms of n/d, by those of its remainder.
-pub fn lowest(n: u64, d: u64) -> Terms
-    requires { (n ≤ most_term) × ((1 ≤ d) × (d ≤ most_term)) }
-    ensures { Beside n d result.g result.n result.d result.up result.down }
+pub fn lowest(at: Ratio) -> Terms
+    ensures { Beside at.n at.d result.g result.n result.d result.up result.down }
 {
-    if n == 0 {
+    if at.n == 0 {
         Terms {
-            g: d,
+            g: at.d,
             n: 0,
             d: 1,
             up: 1,
             down: 0,
         }
     } else {
-        let k = d / n;
-        let t = lowest(d % n, n);
+        let k = at.d / at.n;
+        let t = lowest(Ratio {
+            n: at.d % at.n,
+            d: at.n,
+        });
         let whole = k * t.d + t.n;
         Terms {
             g: t.g,
@@ -56,18 +58,17 @@ fn steps(x: u64, y: u64) -> u64
 }
 
 // One number for a distortion and a rate: a × distortion + b × rate.
-#[derive(Clone, Copy)]
+#[derive(Clone, Copy, Debug, PartialEq, Eq)]
 pub struct Weights {
     pub a: u64,
     pub b: u64,
 }
 
 // The weights of the multiplier n/d.
-pub fn weigh(n: u64, d: u64) -> Weights
-    requires { (n ≤ most_term) × ((1 ≤ d) × (d ≤ most_term)) }
-    ensures { Weighed n d result.a result.b }
+pub fn weigh(at: Ratio) -> Weights
+    ensures { Weighed at.n at.d result.a result.b }
 {
-    let t = lowest(n, d);
+    let t = lowest(at);
     let s = if t.n < t.d {
         steps(t.down, t.d)
     } else {

@@ -2,7 +2,7 @@
 use mathlib.Core.Path.{◌≡◌, refl}
 use mathlib.Core.Logic.{◌≢◌, inl, inr}
 use mathlib.Core.Bool.{Bool, true, false, cond}
-use Prim.Native.Nat.{ℕ, ◌+◌, ◌*◌, ◌≤◌, ◌<◌, ◌^◌}
+use Prim.Native.Nat.{ℕ, ◌+◌, ◌*◌, ◌≤◌, ◌<◌}
 use native.Mathlib.Nat.{mul-le-mul_right}
 use native.Mathlib.Omega.{arith}
 use lib.Dec.{eqb}
@@ -12,10 +12,6 @@ use Rattle.tables.specs.Legal.{LegalRate}
 use Rattle.keys.specs.OneKey.{weight_bound}
 use Rattle.least.specs.declared.Rule.{Rule}
 use Rattle.least.specs.Row.{Light, no_way, price_of}
-
--- a product of a weight and a number of 32 bits
-pub weight_fits : {w : ℕ} (x : ℕ) → w < weight_bound → x < 2 ^ 32 → w * x ≤ 9223372030412324865
-weight_fits {w} x h g = omega (arith, mul-le-mul_right {m = w} {n = 2147483647} x (omega arith))
 
 -- a product of a weight and a legal cell
 pub cell_fits : {w x : ℕ} → w < weight_bound → x ≤ most_cell → w * x ≤ 2251797666201600
@@ -43,9 +39,3 @@ module _ (rule : Rule) (rate counted : ℕ) where
   pub price_small : Light rule → LegalRate rate → counted ≤ most_cell → price_of rule rate counted ≤ no_way
   unfolding price_of
   price_small w l m = small_test w l m (eqb rate forbidden) refl
-
--- the price, as the code makes it
-pub priced : (rule : Rule) {rate counted r v w₁ w₂ w₃ w₄ : ℕ} → r ≡ cond (eqb rate forbidden) no_way v →
-    v ≡ w₄ * w₂ + w₃ * w₁ → w₁ ≡ rate → w₂ ≡ counted → w₃ ≡ rule.b → w₄ ≡ rule.a → r ≡ price_of rule rate counted
-unfolding price_of
-priced rule e g h₁ h₂ h₃ h₄ = rw (e, g, h₁, h₂, h₃, h₄)

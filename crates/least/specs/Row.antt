@@ -42,6 +42,6 @@ pub record BestOf (x : ℕ → ℕ) (lo hi key first : ℕ) : Type 0 where
   pub found : key < no_way → (lo ≤ first) × (first < hi) × (key ≡ x first)
   pub before : key < no_way → (q : ℕ) → lo ≤ q → q < first → key < x q
 
--- weights of 31 bits
+-- weights of 31 bits, which every rule has
 abbrev pub Light : Rule → Type 0
 Light rule = (rule.a < weight_bound) × (rule.b < weight_bound)

@@ -9,10 +9,7 @@ use lib.ListN.{length, get_or}
 use Rattle.laws.proofs.Tests.{never}
 use Rattle.tables.specs.Legal.{LegalCell}
 use Rattle.tables.specs.declared.refusal.Refusal.{Refusal}
-use Rattle.tables.specs.declared.refusal.Refusal.TheVariants as refusal
-use Rattle.legal.specs.declared.Legality.{Legality}
-use Rattle.legal.specs.declared.Legality.TheVariants.{Legal, Illegal}
-use Rattle.legal.specs.Judged.{Judged, all_legal, not_legal, LegalRun, LowestInRun, RunJudged, run_legal, run_illegal, legality_refusal}
+use Rattle.legal.specs.Judged.{Judged, all_legal, not_legal, LegalRun, LowestInRun, RunJudged, run_legal, run_illegal}
 use Rattle.legal.specs.Parts.{no_cell, IfIllegal}
 use Rattle.legal.proofs.LegalLaws.{legal?, legal_more, lowest_next, lowest_more, legal_on, lowest_on, all_of_run, lowest_of_run}
 
@@ -53,16 +50,16 @@ module _ (weigh : ℕ → ℕ) (rates distortions : List ℕ) where
   run_lowest (one_kept p) e h = rw e p
 
   -- behind legal cells a run ends the walk, or takes it on
-  pub walk_stops : {from to : ℕ} {v : Legality} {k : ℕ} → to ≤ length rates → LegalRun weigh rates distortions 0 from → RunJudged weigh rates distortions from to (legality_refusal v) → v ≡ Illegal k →
-      Judged weigh rates distortions (legality_refusal v)
-  walk_stops {from} {to} {v} {k} h l j e = of j (rw e refl)
+  pub walk_stops : {from to : ℕ} {r : Refusal} → to ≤ length rates → LegalRun weigh rates distortions 0 from → RunJudged weigh rates distortions from to (some r) →
+      Judged weigh rates distortions (some r)
+  walk_stops {from} {to} {r} h l j = of j refl
     where
-      of : {o : Option Refusal} → RunJudged weigh rates distortions from to o → o ≡ some (refusal.Cell k) → Judged weigh rates distortions o
+      of : {o : Option Refusal} → RunJudged weigh rates distortions from to o → o ≡ some r → Judged weigh rates distortions o
       of (run_legal m) g = never cc
       of (run_illegal p) g = not_legal (lowest_of_run weigh rates distortions h (lowest_on weigh rates distortions (omega arith) l p))
 
-  pub walk_goes_on : {from to : ℕ} {v : Legality} → LegalRun weigh rates distortions 0 from → RunJudged weigh rates distortions from to (legality_refusal v) → v ≡ Legal → LegalRun weigh rates distortions 0 to
-  walk_goes_on {from} {to} {v} l j e = of j (rw e refl)
+  pub walk_goes_on : {from to : ℕ} → LegalRun weigh rates distortions 0 from → RunJudged weigh rates distortions from to none → LegalRun weigh rates distortions 0 to
+  walk_goes_on {from} {to} l j = of j refl
     where
       of : {o : Option Refusal} → RunJudged weigh rates distortions from to o → o ≡ none → LegalRun weigh rates distortions 0 to
       of (run_legal m) g = legal_on weigh rates distortions l m

@@ -4,13 +4,6 @@ use Rattle.std.specs.Prelude.{List, ℕ, ◌≤◌, ◌<◌}
 use Rattle.tables.specs.declared.refusal.Refusal.{Refusal}
 use Rattle.tables.specs.declared.refusal.Refusal.TheVariants as refusal
 use Rattle.tables.specs.Legal.{LegalCell, AllLegal, LowestIllegal}
-use Rattle.legal.specs.declared.Legality.{Legality}
-use Rattle.legal.specs.declared.Legality.TheVariants.{Legal, Illegal}
-
--- the refusal that the check comes out as, if it is one; its number and its value are `number_of` and `carried_by`
-abbrev pub legality_refusal : Legality → Option Refusal
-legality_refusal Legal = none
-legality_refusal (Illegal k) = some (refusal.Cell k)
 
 -- check 7 came out as this, where `weigh` gives the weight of each cell: every cell is legal, or this is the lowest that is not
 pub data Judged (weigh : ℕ → ℕ) (rates distortions : List ℕ) : Option Refusal → Type 0 where

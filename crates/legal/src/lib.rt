@@ -5,50 +5,29 @@
 ghost use Rattle.std.specs.Prelude.{◌≡◌, ◌↔◌, true, ◌+◌, ◌≤◌, ◌<◌, min, length};
 ghost use Rattle.tables.specs.Limits.{most_cell};
 ghost use Rattle.tables.specs.Legal.{LegalRate, LegalBeside, weights_by_scan, no_weights};
-ghost use Rattle.legal.specs.Judged.{Judged, RunJudged, legality_refusal};
+ghost use Rattle.tables.specs.Refusals.{ended};
+ghost use Rattle.legal.specs.Judged.{Judged, RunJudged};
 ghost use Rattle.legal.specs.Parts.{weight_limit, heavy_of, no_cell, RunWithin, ScansWithin, IfIllegal};
 
-use octets::cast::byte_to_cell;
 use tables::limits::{FORBIDDEN, MOST_CELL};
+use tables::refusal::Refusal;
 
-#[derive(Clone, Copy)]
-pub enum Legality {
-    Legal,
-    // The lowest illegal cell.
-    Illegal(usize),
-}
-
-// No cell, in the place of how far into its run a cell stands.
+// No cell, in the place of how far into its run a cell stands. A number and no `Option`, which would put a branch into the loop over a run.
 const NONE: u32 = 4294967295;
-
-fn lesser(x: u32, y: u32) -> u32
-    ensures { result ≡ min x y }
-{
-    if x < y {
-        return x;
-    }
-    y
-}
 
 // What a cell is tested with, once for a run: its weight, but at least 1. So one product tells of the weighed distortion and of the plain one,
 // which has to be in range too where the weight is 0.
 fn heavy(weight: u32) -> u32
     ensures { result ≡ heavy_of weight }
 {
-    if weight == 0 {
-        return 1;
-    }
-    weight
+    weight.max(1)
 }
 
 // A distortion out of range is taken as one that is just out of range, so that its product with a weight fits.
 fn capped(distortion: u32) -> u32
     ensures { result ≡ min distortion (most_cell + 1) }
 {
-    if MOST_CELL < distortion {
-        return MOST_CELL + 1;
-    }
-    distortion
+    distortion.min(MOST_CELL + 1)
 }
 
 // One cell of a scan: its rate, and the distortion beside it. Every test is made, whatever those before it told, so that the loop over a run has no branch.
@@ -79,53 +58,51 @@ pub fn judge_run(
     from: usize,
     to: usize,
     weight: u32,
-) -> Legality
+) -> Result<(), Refusal>
     requires { RunWithin (length rates.now) (length distortions.now) from to weight }
-    ensures { RunJudged (λ k. weight) rates.now distortions.now from to (legality_refusal result) }
+    ensures { RunJudged (λ k. weight) rates.now distortions.now from to (ended result) }
 {
     let tested = heavy(weight);
     let cells = to - from;
     let mut lowest = NONE;
-    let mut far = 0;
-    while far < cells {
+    for far in 0..cells {
         let k = from + far;
         let rate = rates[k];
         let distortion = distortions[k];
-        lowest = lesser(lowest, if_illegal(tested, rate, distortion, far as u32));
-        far += 1;
+        let kept = if_illegal(tested, rate, distortion, far as u32);
+        lowest = lowest.min(kept);
     }
     if lowest == NONE {
-        return Legality::Legal;
+        return Ok(());
     }
-    Legality::Illegal(from + lowest as usize)
+    Err(Refusal::Cell((from + lowest as usize) as u64))
 }
 
 // All cells, where no scan has a weight.
-pub fn judge_plain(rates: &[u32], distortions: &[u32]) -> Legality
+pub fn judge_plain(rates: &[u32], distortions: &[u32]) -> Result<(), Refusal>
     requires { (length distortions.now ≡ length rates.now) × (length rates.now ≤ no_cell) }
-    ensures { Judged no_weights rates.now distortions.now (legality_refusal result) }
+    ensures { Judged no_weights rates.now distortions.now (ended result) }
 {
     judge_run(rates, distortions, 0, rates.len(), 1)
 }
 
 // All cells, scan by scan: each scan is a run, with a weight of its own.
-pub fn judge(rates: &[u32], distortions: &[u32], weights: &[u8], settings: usize) -> Legality
+pub fn judge(
+    rates: &[u32],
+    distortions: &[u32],
+    weights: &[u8],
+    settings: usize,
+) -> Result<(), Refusal>
     requires { ScansWithin (length weights.now) settings (length rates.now) (length distortions.now) }
-    ensures { Judged (weights_by_scan settings weights.now) rates.now distortions.now (legality_refusal result) }
+    ensures { Judged (weights_by_scan settings weights.now) rates.now distortions.now (ended result) }
 {
     let size = settings * settings;
     let mut from = 0;
     let mut to = settings;
-    let mut scan = 0;
-    while scan < weights.len() {
-        let weight = byte_to_cell(weights[scan]);
-        let verdict = judge_run(rates, distortions, from, to, weight);
-        let Legality::Legal = verdict else {
-            return verdict;
-        };
+    for weight in weights {
+        judge_run(rates, distortions, from, to, u32::from(*weight))?;
         from = to;
         to += size;
-        scan += 1;
     }
-    Legality::Legal
+    Ok(())
 }

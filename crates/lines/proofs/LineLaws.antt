@@ -6,9 +6,18 @@ use Prim.Native.Nat.{ℕ, zero, suc, ◌+◌, ◌-◌, ◌≤◌, ◌<◌}
 use native.Mathlib.Omega.{arith}
 use lib.Dec.{eqb}
 use lib.ListN.{length, get_or, take, drop, drop_of_length-le, get_or-eq_default, length-drop}
-use lib.Seq.{slice, slice_empty, drop-cons, take-suc, length-take-le, drop-append-le, get_or-drop, drop-drop}
+use lib.Seq.{slice, slice_empty, drop-cons, take-suc, length-take-le, drop-append-le, get_or-drop, get_or-take, drop-drop}
+use Rattle.std.proofs.lemmas.List.{drop-take}
 use Rattle.lines.specs.Text.{line_end, line, after, lines_of, lines}
 use Rattle.lines.specs.Parts.{LineEnds}
+
+-- a part, as it is borrowed
+pub part : (text : List ℕ) (from to : ℕ) → from ≤ to → take (to - from) (drop from text) ≡ slice from to text
+part text from to h = let p : from + (to - from) ≡ to = omega arith in sym (drop-take from (to - from) text) ∙ ap (λ (n : ℕ). drop from (take n text)) p
+
+-- a byte of a part
+pub get_or_slice : (from to : ℕ) (text : List ℕ) (i : ℕ) → from + i < to → get_or (slice from to text) i 0 ≡ get_or text (from + i) 0
+get_or_slice from to text i h = get_or-drop from (take to text) i 0 ∙ get_or-take to text (from + i) 0 h
 
 -- a part with one byte more
 pub slice_snoc : (from i : ℕ) (text : List ℕ) → from ≤ i → i < length text → slice from (suc i) text ≡ slice from i text ++ (get_or text i 0 ∷ [])

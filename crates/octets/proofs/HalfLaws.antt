@@ -5,8 +5,6 @@ use native.Mathlib.Omega.{arith}
 use lib.Bits.{bit_and, bit_or, and_mask, and_high, or_shifted, or_shifted_r}
 use borrow.Author.Tests.{eq-eqb, ne_eqb}
 use Rattle.octets.specs.Bytes.{half, with_half}
-use Prim.Native.Nat.{ℕ, zero, suc, ◌+◌, ◌*◌, ◌/◌, ◌%◌, ◌<◌}
-use borrow.Author.Tests.{eq-eqb, ne_eqb}
 
 -- a shift by four for each half is a power of 16
 by_four : (m : ℕ) → m < 2 → 2 ^ (4 * m) ≡ 16 ^ m

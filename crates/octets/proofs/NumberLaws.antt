@@ -1,13 +1,11 @@
--- Numbers, low byte first: bytes and numbers both ways, and sums of bytes. Assumes nothing.
-use mathlib.Core.Path.{◌≡◌, refl, sym, ap, ◌∙◌}
-use mathlib.Core.List.{List, [], ◌∷◌, ◌++◌}
-use Prim.Native.Nat.{ℕ, zero, suc, ◌+◌, ◌*◌, ◌/◌, ◌%◌, ◌^◌, ◌≤◌, ◌<◌}
+-- Numbers, low byte first: bytes and numbers both ways. Assumes nothing.
+use Rattle.std.proofs.Common.{◌≡◌, refl, sym, ap, ◌∙◌, List, [], ◌∷◌, ◌++◌, ℕ, zero, suc, ◌+◌, ◌-◌, ◌*◌, ◌/◌, ◌%◌, ◌^◌, ◌≤◌, ◌<◌, arith, length, get_or, take, drop, replicate, slice_index, take-suc, take_all, length-take-le, w64}
+use Rattle.std.specs.Int.{byte_at, byte_worth, bytes_low_first, sum_through, to_le_bytes, from_le_bytes}
+use Rattle.std.proofs.lemmas.List.{drop-replicate, length-replicate, length-append}
 use native.Mathlib.Nat.{pow-suc, pow-zero, mul_assoc, mul_comm, div-div-eq-div-mul}
-use native.Mathlib.Omega.{arith}
-use lib.ListN.{length, get_or, take, drop}
-use lib.Seq.{drop-cons, get_or-drop}
+use lib.Seq.{get_or-drop}
 use Rattle.octets.specs.Bytes.{le, value, part, number_at}
-use Rattle.octets.proofs.PartLaws.{part_length, part_join}
+use Rattle.octets.proofs.PartLaws.{part_length}
 
 -- the k bytes of a number are k
 pub length_le : (k x : ℕ) → length (le k x) ≡ k
@@ -15,29 +13,30 @@ unfolding le
 length_le zero x = refl
 length_le (suc k) x = ap suc (length_le k (x / 256))
 
--- the lower bytes of a number and the higher ones
-le_split : (j k x w : ℕ) → 256 ^ j ≡ w → le (j + k) x ≡ le j x ++ le k (x / w)
+-- the lowest of some bytes of a number
+take_le : (n m x : ℕ) → n ≤ m → take n (le m x) ≡ le n x
 unfolding le
-le_split zero k x w e =
-    let h : w ≡ 1 = sym e in
-    let z : 0 + k ≡ k = omega arith in
-    let d : x / 1 ≡ x = omega arith in
-    rw (h, z, d) refl
-le_split (suc j) k x w e =
-    let h : w ≡ 256 * 256 ^ j = sym e ∙ pow-suc 256 j ∙ mul_comm (256 ^ j) 256 in
-    let d : x / w ≡ x / 256 / 256 ^ j = ap (λ (n : ℕ). x / n) h ∙ sym (div-div-eq-div-mul x 256 (256 ^ j)) in
-    let s : suc j + k ≡ suc (j + k) = omega arith in
-    rw (s, d) (ap (λ (l : List ℕ). x % 256 ∷ l) (le_split j k (x / 256) (256 ^ j) refl))
+take_le zero m x h = refl
+take_le (suc n) zero x h = absurd (omega arith)
+take_le (suc n) (suc m) x h = ap (λ (l : List ℕ). x % 256 ∷ l) (take_le n m (x / 256) (omega arith))
 
--- two numbers of half the width
-pub le_two : (x : ℕ) → le 2 x ≡ le 1 x ++ le 1 (x / 256)
-le_two x = le_split 1 1 x 256 refl
+-- the library's bytes of a number, from byte i on
+le_from : (i k x : ℕ) → bytes_low_first i k x ≡ le k (x / 256 ^ i)
+unfolding le
+le_from i zero x = refl
+le_from i (suc k) x =
+    let d : x / 256 ^ i / 256 ≡ x / 256 ^ suc i = div-div-eq-div-mul x (256 ^ i) 256 ∙ ap (λ (n : ℕ). x / n) (sym (pow-suc 256 i)) in
+    rw (d, le_from (suc i) k x, low i) refl
+  where
+    low : (i : ℕ) → byte_at i x ≡ x / 256 ^ i % 256
+    low zero = let d : x / 256 ^ 0 ≡ x = rw (pow-zero 256) (omega arith) in rw d refl
+    low (suc i) = refl
 
-pub le_four : (x : ℕ) → le 4 x ≡ le 2 x ++ le 2 (x / 65536)
-le_four x = le_split 2 2 x 65536 refl
-
-pub le_eight : (x : ℕ) → le 8 x ≡ le 4 x ++ le 4 (x / 4294967296)
-le_eight x = le_split 4 4 x 4294967296 refl
+-- the n low bytes of what the library writes
+pub le_written : (n x : ℕ) → n ≤ 8 → take n (to_le_bytes w64 x) ≡ le n x
+le_written n x h =
+    let d : x / 256 ^ 0 ≡ x = rw (pow-zero 256) (omega arith) in
+    ap (take n) (le_from 0 8 x ∙ ap (le 8) d) ∙ take_le n 8 x h
 
 -- the k bytes of a number that k bytes can hold say it
 pub value_le : (k x : ℕ) → x < 256 ^ k → value (le k x) ≡ x
@@ -90,18 +89,30 @@ value_append (b ∷ l) m w e =
     let h : w ≡ 256 * 256 ^ length l = sym e ∙ pow-suc 256 (length l) ∙ mul_comm (256 ^ length l) 256 in
     rw (t, h, mul_assoc 256 (256 ^ length l) (value m)) (omega arith)
 
--- the number of one byte
-pub number_one : (s : List ℕ) (at : ℕ) → at + 1 ≤ length s → number_at at 1 s ≡ get_or s at 0
-unfolding number_at
-number_one s at h = rw (drop-cons s at 0 (omega arith)) (omega arith)
+-- what the library sums of the first bytes of some
+worth : (k : ℕ) (l : List ℕ) → k < length l → sum_through (λ i. byte_worth i (slice_index l i)) k ≡ value (take (suc k) l)
+worth zero l h = rw (take-suc l 0 0 (omega arith)) (omega arith)
+worth (suc k) l h =
+    let e : length (take (suc k) l) ≡ suc k = length-take-le (suc k) l (omega arith) in
+    let v = value_append (take (suc k) l) (get_or l (suc k) 0 ∷ []) (256 ^ suc k) (ap (λ (n : ℕ). 256 ^ n) e) in
+    rw (take-suc l (suc k) 0 h, v, worth k l (omega arith)) (omega arith)
 
--- the number of adjacent parts
-pub number_split : (s : List ℕ) (at j k w : ℕ) → at + j ≤ length s → 256 ^ j ≡ w
-    → number_at at (j + k) s ≡ number_at at j s + w * number_at (at + j) k s
-unfolding number_at
-number_split s at j k w h e =
-    ap value (sym (part_join s at j k refl refl))
-    ∙ value_append (part at j s) (part (at + j) k s) w (ap (λ (n : ℕ). 256 ^ n) (part_length at j s h) ∙ e)
+-- bytes with zeros behind them hold the same number
+value_zeros : (l : List ℕ) (k : ℕ) → value (l ++ replicate k 0) ≡ value l
+value_zeros l k = value_append l (replicate k 0) (256 ^ length l) refl ∙ rw (none k) (omega arith)
+  where
+    none : (k : ℕ) → value (replicate k 0) ≡ 0
+    none zero = refl
+    none (suc k) = omega (arith, none k)
+
+-- the number that the library reads from some bytes with zeros behind them up to eight
+pub value_read : (l : List ℕ) (n : ℕ) → length l ≡ n → n ≤ 8 → from_le_bytes w64 (l ++ drop n (replicate 8 0)) ≡ value l
+value_read l n e h =
+    let z : drop n (replicate {A = ℕ} 8 0) ≡ replicate (8 - n) 0 = drop-replicate n 8 0 in
+    let long : length (l ++ replicate {A = ℕ} (8 - n) 0) ≡ 8 = omega (arith, length-append l (replicate {A = ℕ} (8 - n) 0), length-replicate {A = ℕ} (8 - n) 0) in
+    let f : (r : List ℕ) → length r ≡ 8 → from_le_bytes w64 r ≡ value r =
+    λ r k. worth 7 r (omega (arith, k)) ∙ ap value (take_all 8 r (omega (arith, k))) in
+    ap (λ (r : List ℕ). from_le_bytes w64 (l ++ r)) z ∙ f (l ++ replicate (8 - n) 0) long ∙ value_zeros l (8 - n)
 
 -- the number at a place of bytes, written as so many bytes, is the part there
 pub number_back : (at k : ℕ) (l : List ℕ) → Bytes l → at + k ≤ length l → le k (number_at at k l) ≡ part at k l
@@ -114,5 +125,3 @@ number_back at k l b h =
 pub number_small : (at k : ℕ) (l : List ℕ) → Bytes l → number_at at k l < 256 ^ k
 unfolding number_at
 number_small at k l b = value_small k (drop at l) (bytes_drop at l b)
-
--- ---- sums

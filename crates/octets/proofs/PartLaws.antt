@@ -1,15 +1,8 @@
 -- Parts of a list of bytes, and stores one after the other. Assumes nothing.
-use mathlib.Core.Path.{◌≡◌, refl, sym, ap, ◌∙◌}
-use mathlib.Core.List.{List, ◌++◌, append_assoc}
-use Prim.Native.Nat.{ℕ, ◌+◌, ◌≤◌, ◌<◌}
-use native.Mathlib.Omega.{arith}
-use lib.ListN.{length, get_or, take, drop, length-drop}
-use lib.Seq.{sets, sets-eq, take_at, drop_at, take-add, drop-drop, length-take-le, get_or-take, get_or-drop}
+use Rattle.std.proofs.Common.{◌≡◌, refl, sym, ap, ◌∙◌, List, ◌++◌, append_assoc, ℕ, ◌+◌, ◌-◌, ◌≤◌, ◌<◌, arith, length, get_or, take, drop, length-drop, take_at, drop_at, take-add, length-take-le}
+use lib.Seq.{sets, sets-eq, drop-drop, get_or-take, get_or-drop}
+use borrow.Rule.Slice.PartMut.{put_mid}
 use Rattle.octets.specs.Bytes.{part}
-use mathlib.Core.List.{List, ◌++◌}
-use Prim.Native.Nat.{ℕ, ◌+◌, ◌≤◌, ◌<◌}
-use lib.ListN.{length, get_or}
-use lib.Seq.{sets}
 
 -- the length of a part
 pub part_length : (at k : ℕ) (l : List ℕ) → at + k ≤ length l → length (part at k l) ≡ k
@@ -40,3 +33,10 @@ part_sets d l at h =
 pub get_inside : (d l : List ℕ) (at i : ℕ) → i < length l → at + length l ≤ length d → get_or (sets d at l) (at + i) 0 ≡ get_or l i 0
 get_inside d l at i h g =
     sym (part_get at (length l) (sets d at l) i h) ∙ ap (λ (s : List ℕ). get_or s i 0) (part_sets d l at g)
+
+-- what is written to `d[at..at + k]` is stored there
+pub put_mid-sets : (d l : List ℕ) (at k : ℕ) → length l ≡ k → at + k ≤ length d → put_mid at (at + k - at) d l ≡ sets d at l
+put_mid-sets d l at k e h =
+    let n : at + k - at ≡ k = omega arith in
+    let m : at + length l ≡ at + k = omega arith in
+    rw (n, sets-eq l d at (omega arith), m, append_assoc, drop-drop) refl

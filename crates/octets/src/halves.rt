@@ -1,4 +1,5 @@
 // The two halves of a byte, by entry number: two entries to a byte, the even one in the low four bits.
+// Shifts and masks by entry number are the form that document 01 names.
 ghost use Rattle.std.specs.Prelude.{◌≡◌, ◌%◌, ◌<◌};
 ghost use Rattle.octets.specs.Bytes.{half, with_half};
 

@@ -1,6 +1,5 @@
-// Casts, numbers in bytes, low byte first, and the halves of a byte.
+// Numbers in bytes, low byte first, and the halves of a byte.
 #![tactic(auto)]
 
-pub mod cast;
 pub mod halves;
 pub mod numbers;

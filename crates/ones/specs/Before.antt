@@ -1,5 +1,6 @@
 -- Document 01 as it stands without document 02, [5]: its cells, its checks 5 and 7, its problem, and what its four calls promise. Nothing here
 -- looks at a weight. Assumes nothing.
+use Rattle.promise.specs.Answers.{PlanAnswer, MinmaxAnswer, AverageAnswer}
 use Rattle.std.specs.Prelude.{◌≡◌, ◌⊎◌, ◌≢◌, List, ℕ, ◌≤◌, ◌<◌, length, get_or}
 use Rattle.std.proofs.Math.Option.{Option, none, some}
 use Rattle.criteria.specs.Choice.{Problem, UnderCeiling, InBudget}
@@ -13,9 +14,6 @@ use Rattle.tables.specs.Legal.{LegalRate}
 use Rattle.tables.specs.Refusals.{Reply}
 use Rattle.checks.specs.Checks.{first_refusal}
 use Rattle.checks.specs.Planning.{Asked, table_of, planning_checks, lengths_out, buffers_short, fourth_check}
-use Rattle.promise.specs.declared.PlanAnswer.{PlanAnswer}
-use Rattle.promise.specs.declared.MinmaxAnswer.{MinmaxAnswer}
-use Rattle.promise.specs.declared.AverageAnswer.{AverageAnswer}
 use Rattle.promise.specs.Promise.{PromiseOver, wiped, IsCeilingPlan, IsMultiplierPlan, IsMinmaxPlan, IsAveragePlan, plan_reply, minmax_reply, average_reply}
 
 -- "Beside a forbidden rate the distortion may be any value .. . Every other distortion is 0 to 1,048,575."

@@ -1,13 +1,11 @@
 -- Document 02, [5]: "All weights 1 must give exactly today's answers." What that says of a question. Assumes nothing.
+use Rattle.promise.specs.Answers.{PlanAnswer, MinmaxAnswer, AverageAnswer}
 use Rattle.std.specs.Prelude.{◌≡◌, ◌↔◌, List, ℕ, length}
 use Rattle.std.proofs.Math.Option.{Option}
 use Rattle.criteria.specs.Choice.{Problem}
 use Rattle.tables.specs.declared.refusal.Refusal.{Refusal}
 use Rattle.tables.specs.Tables.{AllOne}
 use Rattle.checks.specs.Planning.{Asked, Unsound, Sound, early_refusal, problem_of}
-use Rattle.promise.specs.declared.PlanAnswer.{PlanAnswer}
-use Rattle.promise.specs.declared.MinmaxAnswer.{MinmaxAnswer}
-use Rattle.promise.specs.declared.AverageAnswer.{AverageAnswer}
 use Rattle.promise.specs.Promise.{CeilingPromise, MultiplierPromise, MinmaxPromise, AveragePromise}
 use Rattle.ones.specs.Before.{plain_refusal, PlainUnsound, PlainSound, plain_problem, PlainCeiling, PlainMultiplier, PlainMinmax, PlainAverage}
 

@@ -1,5 +1,5 @@
 -- What the parts of a plain line's reading leave each other. Assumes nothing.
-use Rattle.std.specs.Prelude.{◌≡◌, ◌⊎◌, true, List, ℕ, ◌≤◌, ◌<◌, length, get_or, drop}
+use Rattle.std.specs.Prelude.{◌≡◌, ◌⊎◌, true, Option, IfSome, List, ℕ, ◌≤◌, ◌<◌, length, get_or, drop}
 use Rattle.std.proofs.Math.Option.{some}
 use Rattle.std.proofs.Math.Seq.{slice}
 use Rattle.reading.specs.Text.{digit}
@@ -7,10 +7,7 @@ use Rattle.lines.specs.Text.{line_end, number}
 use Rattle.lines.specs.Said.{previous, says_of}
 use Rattle.lines.specs.Parts.{LineEnds}
 use Rattle.plain.specs.declared.digits.Digits.{Digits}
-use Rattle.plain.specs.declared.plain.Part.{Part}
-use Rattle.plain.specs.declared.plain.Part.TheVariants as part
-use Rattle.plain.specs.declared.plain.Plain.{Plain}
-use Rattle.plain.specs.declared.plain.Plain.TheVariants as plain
+use Rattle.plain.specs.declared.plain.Read.{Read}
 
 -- digits alone, from one place up to another
 pub record Plainly (text : List ℕ) (from to : ℕ) : Type 0 where
@@ -29,19 +26,11 @@ pub record FieldAt (text : List ℕ) (from : ℕ) (d : Digits) : Type 0 where
   pub number_is : some d.value ≡ number (slice from d.to text)
   pub comma : get_or text d.to 0 ≡ 44
 
-abbrev pub IsField : List ℕ → ℕ → Part → Type 0
-IsField text from (part.Field d) = FieldAt text from d
-IsField text from part.Other = Unit {0}
-
 -- the previous field, after the scan
 pub record PreviousAt (text : List ℕ) (from scan : ℕ) (d : Digits) : Type 0 where
   pub plainly : Plainly text from d.to
   pub number_is : some d.value ≡ previous scan (slice from d.to text)
   pub comma : get_or text d.to 0 ≡ 44
-
-abbrev pub IsPrevious : List ℕ → ℕ → ℕ → Part → Type 0
-IsPrevious text from scan (part.Field d) = PreviousAt text from scan d
-IsPrevious text from scan part.Other = Unit {0}
 
 -- the last field: the line ends after it
 pub record LastAt (text : List ℕ) (from : ℕ) (d : Digits) : Type 0 where
@@ -49,11 +38,6 @@ pub record LastAt (text : List ℕ) (from : ℕ) (d : Digits) : Type 0 where
   pub number_is : some d.value ≡ number (slice from d.to text)
   pub ends : (d.to ≡ length text) ⊎ (line_end (drop d.to text) ≡ true)
 
-abbrev pub IsLast : List ℕ → ℕ → Part → Type 0
-IsLast text from (part.Field d) = LastAt text from d
-IsLast text from part.Other = Unit {0}
-
 -- a line that was read is the line that starts there, and says what was read
-abbrev pub IsPlain : List ℕ → ℕ → Plain → Type 0
-IsPlain text at (plain.Line r) = LineEnds text at r.end × (some r.entry ≡ says_of (slice at r.end text))
-IsPlain text at plain.Other = Unit {0}
+abbrev pub IsPlain : List ℕ → ℕ → Option Read → Type 0
+IsPlain text at o = IfSome o (λ r. LineEnds text at r.end × (some r.entry ≡ says_of (slice at r.end text)))

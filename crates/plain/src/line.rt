@@ -2,33 +2,33 @@
 ghost use Rattle.std.specs.Prelude.{◌≡◌, ◌≤◌, length};
 ghost use Rattle.std.proofs.Math.Seq.{slice};
 ghost use Rattle.lines.specs.Said.{says_of};
-ghost use Rattle.lines.specs.Parts.{LineEnds, line_said};
+ghost use Rattle.lines.specs.Parts.{LineEnds, said};
 
-use crate::plain::{Plain, plain_line};
+use crate::plain::plain_line;
 use lines::ends::line_end;
-use lines::says::{Line, says};
+use lines::says::{Entry, says};
 
-// What a line says, and where it ends.
+// What a line says, if it is not malformed, and where it ends.
 #[derive(Drop)]
 pub struct Found {
-    pub line: Line,
+    pub line: Option<Entry>,
     pub end: usize,
 }
 
 // A plain line is read in one walk, any other by its parts.
 pub fn line_at(text: &[u8], at: usize) -> Found
     requires { at ≤ length text.now }
-    ensures { LineEnds text.now at result.end × (line_said result.line ≡ says_of (slice at result.end text.now)) }
+    ensures { LineEnds text.now at result.end × (said result.line ≡ says_of (slice at result.end text.now)) }
 {
-    let first = plain_line(text, at);
-    let Plain::Line(read) = first else {
-        let end = line_end(text, at);
-        let line = says(text, at, end);
-        return Found { line, end };
-    };
-    let entry = read.entry;
+    if let Some(read) = plain_line(text, at) {
+        return Found {
+            line: Some(read.entry),
+            end: read.end,
+        };
+    }
+    let end = line_end(text, at);
     Found {
-        line: Line::Says(entry),
-        end: read.end,
+        line: says(text, at, end),
+        end,
     }
 }

@@ -6,10 +6,8 @@ use lib.ListN.{get_or}
 use Rattle.tables.specs.Refusals.{Reply}
 use Rattle.tables.proofs.RefusalLaws.{refused_unique, answered_or_refused}
 use Rattle.planfile.specs.declared.read.PlanRead.{PlanRead}
-use Rattle.planfile.specs.declared.read.ReadAnswer.{ReadAnswer}
-use Rattle.planfile.specs.declared.read.ReadAnswer.TheVariants as read_answer
-use Rattle.planfile.specs.declared.write.WriteAnswer.{WriteAnswer}
-use Rattle.planfile.specs.declared.write.WriteAnswer.TheVariants as write_answer
+use Rattle.std.specs.Prelude.{Result, Ok, Err}
+use Rattle.tables.specs.declared.refusal.Refusal.{Refusal}
 use Rattle.planfile.specs.Reading.{read_reply}
 use Rattle.planfile.specs.Writing.{write_reply}
 
@@ -34,15 +32,15 @@ read_from v = record {
 }
 
 -- The promises settle the answers: two with one number and the same values are the same.
-pub read_unique : (a b : ReadAnswer) → read_reply a ≡ read_reply b → a ≡ b
+pub read_unique : (a b : Result PlanRead Refusal) → read_reply a ≡ read_reply b → a ≡ b
 unfolding read_from
-read_unique (read_answer.Read f) (read_answer.Read g) e = ap (λ (x : Reply). read_answer.Read (read_from x.values)) e
-read_unique (read_answer.Read f) (read_answer.Refused r) e = absurd (answered_or_refused r e)
-read_unique (read_answer.Refused r) (read_answer.Read f) e = absurd (answered_or_refused r (sym e))
-read_unique (read_answer.Refused r) (read_answer.Refused r') e = ap read_answer.Refused (refused_unique e)
+read_unique (Ok f) (Ok g) e = ap (λ (x : Reply). Ok (read_from x.values)) e
+read_unique (Ok f) (Err r) e = absurd (answered_or_refused r e)
+read_unique (Err r) (Ok f) e = absurd (answered_or_refused r (sym e))
+read_unique (Err r) (Err r') e = ap Err (refused_unique e)
 
-pub write_unique : (a b : WriteAnswer) → write_reply a ≡ write_reply b → a ≡ b
-write_unique (write_answer.Written n) (write_answer.Written m) e = ap (λ (x : Reply). write_answer.Written (get_or x.values 0 0)) e
-write_unique (write_answer.Written n) (write_answer.Refused r) e = absurd (answered_or_refused r e)
-write_unique (write_answer.Refused r) (write_answer.Written n) e = absurd (answered_or_refused r (sym e))
-write_unique (write_answer.Refused r) (write_answer.Refused r') e = ap write_answer.Refused (refused_unique e)
+pub write_unique : (a b : Result ℕ Refusal) → write_reply a ≡ write_reply b → a ≡ b
+write_unique (Ok n) (Ok m) e = ap (λ (x : Reply). Ok (get_or x.values 0 0)) e
+write_unique (Ok n) (Err r) e = absurd (answered_or_refused r e)
+write_unique (Err r) (Ok n) e = absurd (answered_or_refused r (sym e))
+write_unique (Err r) (Err r') e = ap Err (refused_unique e)

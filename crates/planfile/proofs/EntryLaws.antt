@@ -1,10 +1,11 @@
 -- The entries of a file, one after another. Assumes nothing.
 use mathlib.Core.Path.{◌≡◌, refl, sym, ap, ◌∙◌}
-use mathlib.Core.List.{List, [], ◌∷◌, ◌++◌}
+use mathlib.Core.List.{List, [], ◌∷◌, ◌++◌, append_assoc}
 use Prim.Native.Nat.{ℕ, zero, suc, ◌+◌, ◌≤◌, ◌<◌}
 use native.Mathlib.Omega.{arith}
-use lib.ListN.{length, get_or}
-use lib.Seq.{ext_get_or}
+use lib.ListN.{length, get_or, set, drop}
+use lib.Seq.{ext_get_or, set-append_seam}
+use Rattle.std.proofs.lemmas.List.{drop_more}
 use Rattle.octets.specs.Bytes.{part}
 use Rattle.octets.proofs.PartLaws.{part_length, part_get}
 use Rattle.planfile.specs.Reading.{entries}
@@ -14,7 +15,7 @@ snoc_from : (e : ℕ → ℕ) (i n : ℕ) → entries e i n ++ (e (i + n) ∷ []
 snoc_from e i zero = let h : i + 0 ≡ i = omega arith in ap (λ k. e k ∷ []) h
 snoc_from e i (suc n) = let h : i + suc n ≡ suc i + n = omega arith in ap (λ l. e i ∷ l) (ap (λ k. entries e (suc i) n ++ (e k ∷ [])) h ∙ snoc_from e (suc i) n)
 
-pub entries_snoc : (e : ℕ → ℕ) (n : ℕ) → entries e 0 n ++ (e n ∷ []) ≡ entries e 0 (n + 1)
+entries_snoc : (e : ℕ → ℕ) (n : ℕ) → entries e 0 n ++ (e n ∷ []) ≡ entries e 0 (n + 1)
 entries_snoc e n =
     let z : n ≡ 0 + n = omega arith in
     let s : suc n ≡ n + 1 = omega arith in
@@ -24,6 +25,17 @@ entries_snoc e n =
 pub length_entries : (e : ℕ → ℕ) (j n : ℕ) → length (entries e j n) ≡ n
 length_entries e j zero = refl
 length_entries e j (suc n) = ap suc (length_entries e (suc j) n)
+
+-- the first j entries stand before the settings from j on, and entry j is handed over
+pub entries_more : (e : ℕ → ℕ) (s : List ℕ) (j : ℕ) → j < length s → set (entries e 0 j ++ drop j s) j (e j) ≡ entries e 0 (j + 1) ++ drop (j + 1) s
+entries_more e s j h =
+    let x = get_or s j 0 in
+    let rest = drop (j + 1) s in
+    ap (λ l. set (entries e 0 j ++ l) j (e j)) (drop_more s j 0 h)
+    ∙ ap (λ k. set (entries e 0 j ++ (x ∷ rest)) k (e j)) (sym (length_entries e 0 j))
+    ∙ set-append_seam (entries e 0 j) x rest (e j)
+    ∙ sym (append_assoc (entries e 0 j) (e j ∷ []) rest)
+    ∙ ap (λ l. l ++ rest) (entries_snoc e j)
 
 -- entry i of the list is the one i after the first
 pub get_or_entries : (e : ℕ → ℕ) (j n i : ℕ) → i < n → get_or (entries e j n) i 0 ≡ e (j + i)

@@ -16,8 +16,7 @@ use Rattle.rules.specs.declared.Fields.{Fields}
 use Rattle.blocks.specs.Letters.{qpl2, version_of}
 use Rattle.blocks.specs.File.{file_of, file_length, entry_at}
 use Rattle.planfile.specs.declared.read.PlanRead.{PlanRead}
-use Rattle.planfile.specs.declared.read.ReadAnswer.TheVariants.{Read}
-use Rattle.planfile.specs.declared.write.WriteAnswer.TheVariants.{Written}
+use Rattle.std.specs.Prelude.{Ok}
 use Rattle.planfile.specs.Reading.{fields_of, plan_read, read_values, read_refusal, read_of, read_reply, entries, settings_after}
 use Rattle.planfile.specs.Writing.{write_refusal, write_of, write_reply, file_after}
 use Rattle.blocks.proofs.LetterLaws.{qpl2_known}
@@ -29,7 +28,7 @@ use Rattle.planfile.proofs.Accepted.{accepted_file, accepted_plan}
 
 -- what the writer answers where it refuses nothing
 written_as : (f : Fields) (settings : List ℕ) (room : ℕ) → write_refusal f settings room ≡ none →
-    write_of f settings room ≡ write_reply (Written (file_length f.scans))
+    write_of f settings room ≡ write_reply (Ok (file_length f.scans))
 unfolding write_of
 written_as f settings room e = rw e refl
 
@@ -41,7 +40,7 @@ left_is f settings buffer e =
     ∙ take_at (file_of qpl2 f settings) (drop n buffer) n (length_back qpl2 f settings)
 
 -- what the reader answers to a file that it does not refuse
-read_as : (file lent : List ℕ) {p : PlanRead} → read_refusal file (length lent) ≡ none → plan_read file ≡ p → read_of file (length lent) ≡ read_reply (Read p)
+read_as : (file lent : List ℕ) {p : PlanRead} → read_refusal file (length lent) ≡ none → plan_read file ≡ p → read_of file (length lent) ≡ read_reply (Ok p)
 unfolding read_of
 read_as file lent {p} e g =
     ap (λ (o : Option Refusal). or_answer o (read_values (plan_read file))) e ∙ ap (λ (q : PlanRead). answered (read_values q)) g

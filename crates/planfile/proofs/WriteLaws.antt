@@ -1,18 +1,16 @@
 -- The writer's stages, and its answer. Assumes nothing.
-use mathlib.Core.Path.{◌≡◌, refl, sym, ap, ◌∙◌}
+use mathlib.Core.Path.{◌≡◌, sym, ap, ◌∙◌}
 use mathlib.Core.Bool.{true, false, cond}
-use mathlib.Core.Option.{none, some}
-use mathlib.Core.List.{List, [], ◌∷◌, ◌++◌, append-nil, append_assoc}
+use mathlib.Core.Option.{none}
+use mathlib.Core.List.{List, ◌++◌, append-nil, append_assoc}
 use Prim.Native.Nat.{ℕ, zero, suc, ◌+◌, ◌*◌, ◌≤◌, ◌<◌}
 use native.Mathlib.Nat.{zero-add}
 use native.Mathlib.Omega.{arith}
 use lib.Dec.{ltb}
 use lib.ListN.{length, drop, get_or}
-use lib.Seq.{sets, sets-eq, length-sets}
+use lib.Seq.{sets, sets-eq}
 use borrow.Author.Tests.{ltb-false, lt-ltb}
-use Rattle.tables.specs.declared.refusal.Refusal.{Refusal}
 use Rattle.tables.specs.declared.refusal.Refusal.TheVariants as refusal
-use Rattle.tables.specs.Refusals.{refused, answered}
 use Rattle.checks.specs.Checks.{first_refusal, when}
 use Rattle.checks.specs.Planning.{scans_out}
 use Rattle.checks.proofs.RangeLaws.{in_range}
@@ -24,36 +22,19 @@ use Rattle.blocks.specs.Letters.{qpl2}
 use Rattle.blocks.specs.File.{sealed, data_block, data_from, file_of, file_length}
 use Rattle.tables.specs.Law.{allows, law_out}
 use Rattle.rules.specs.Rules.{header_rules}
-use Rattle.planfile.specs.Writing.{writer_checks, no_faults, write_short, write_refusal_under, write_refusal, write_of, file_after}
+use Rattle.planfile.specs.Writing.{no_faults, write_short, write_refusal_under, write_refusal}
 use Rattle.checks.proofs.CheckLaws.{none_when, none_else}
 use Rattle.rules.proofs.FieldLaws.{rules_hold}
 use Rattle.planfile.proofs.FieldLaws.{writable, entry_small}
 use Rattle.planfile.proofs.Back.{length_back}
 
--- the writer's stages, as its checks
-pub write_stages : (f : Fields) (settings : List ℕ) (room : ℕ) → write_refusal f settings room ≡ first_refusal (writer_checks f settings room)
-unfolding write_refusal_under
-write_stages f settings room = refl
-
--- the answer and the file buffer of a refused write
-pub refused_write : (f : Fields) (settings file : List ℕ) (r : Refusal) → write_refusal f settings (length file) ≡ some r
-    → (refused r ≡ write_of f settings (length file)) × (file ≡ file_after (write_refusal f settings (length file)) f settings file)
-unfolding write_of
-refused_write f settings file r e = (sym (rw e refl), sym (rw e refl))
-
--- the answer and the file buffer of a write
-pub accepted_write : (f : Fields) (settings file after : List ℕ) (n : ℕ) → n ≡ file_length f.scans → file_length f.scans ≤ length file
-    → after ≡ sets file 0 (file_of qpl2 f settings) → write_refusal f settings (length file) ≡ none
-    → (answered (n ∷ []) ≡ write_of f settings (length file)) × (after ≡ file_after (write_refusal f settings (length file)) f settings file)
-unfolding write_of
-accepted_write f settings file after n q h s e =
+-- the file stands in front of what the buffer held behind it
+pub left_behind : (f : Fields) (settings file : List ℕ) → file_length f.scans ≤ length file
+    → sets file 0 (file_of qpl2 f settings) ≡ file_of qpl2 f settings ++ drop (file_length f.scans) file
+left_behind f settings file h =
+    let w = file_of qpl2 f settings in
     let l = length_back qpl2 f settings in
-    let k : 0 + length (file_of qpl2 f settings) ≤ length file = omega (arith, l, h) in (
-      ap (λ m. answered (m ∷ [])) q ∙ sym (rw e refl),
-      s ∙ sets-eq (file_of qpl2 f settings) file 0 k
-          ∙ ap (λ m. file_of qpl2 f settings ++ drop m file) (zero-add (length (file_of qpl2 f settings)) ∙ l)
-          ∙ sym (rw e refl),
-    )
+    sets-eq w file 0 (omega (arith, l, h)) ∙ ap (λ m. w ++ drop m file) (zero-add (length w) ∙ l)
 
 -- where the rules are kept, N is in its range
 pub scans_inside : (f : Fields) → first_refusal (header_rules (law_out f.law) no_faults f) ≡ none → (1 ≤ f.scans) × (f.scans ≤ 1024)
@@ -103,7 +84,3 @@ put_more version e b d p i =
     ∙ ap (λ x. sets x (512 * suc b) (sealed version (data_block e b))) i
     ∙ sets_append d (data_from version e 0 b) (sealed version (data_block e b)) 512 (512 * suc b) (omega (arith, length_data version b e 0))
     ∙ ap (sets d 512) (data_more version e b)
-
--- a file is as long as it was
-pub put_long : (at k : ℕ) (file w : List ℕ) {file' : List ℕ} → file' ≡ sets file at w → length file ≡ k → length file' ≡ k
-put_long at k file w p i = ap length p ∙ length-sets file at w ∙ i

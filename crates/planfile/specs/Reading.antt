@@ -1,5 +1,5 @@
 -- What the reader answers. Assumes nothing.
-use Rattle.std.specs.Prelude.{Bool, false, cond, List, [], ◌∷◌, ◌++◌, ℕ, zero, suc, ◌*◌, ◌-◌, ◌/◌, eqb, ltb, length, drop, replicate}
+use Rattle.std.specs.Prelude.{Bool, false, cond, List, [], ◌∷◌, ◌++◌, ℕ, zero, suc, ◌*◌, ◌-◌, ◌/◌, eqb, ltb, length, drop, replicate, Result, Ok, Err}
 use Rattle.std.proofs.Math.Option.{Option, none, some}
 use Rattle.rules.specs.declared.Faults.{Faults}
 use Rattle.blocks.specs.Sizes.{first_run, short_run, last_run, block_size, block_entries}
@@ -9,8 +9,6 @@ use Rattle.tables.specs.Refusals.{Reply, refused, answered}
 use Rattle.checks.specs.Checks.{first_refusal, or_answer, first_from, when, found}
 use Rattle.rules.specs.declared.Fields.{Fields}
 use Rattle.planfile.specs.declared.read.PlanRead.{PlanRead}
-use Rattle.planfile.specs.declared.read.ReadAnswer.{ReadAnswer}
-use Rattle.planfile.specs.declared.read.ReadAnswer.TheVariants.{Read, Refused}
 use Rattle.octets.specs.Bytes.{part, number_at}
 use Rattle.blocks.specs.Differ.{differ}
 use Rattle.blocks.specs.Letters.{no_version, qpl2, version_of}
@@ -110,6 +108,6 @@ settings_after none file settings = entries (entry_at file) 0 (fields_of file).s
 settings_after (some r) file settings = settings
 
 -- the number and values of the reader's answer
-abbrev pub read_reply : ReadAnswer → Reply
-read_reply (Read p) = answered (read_values p)
-read_reply (Refused r) = refused r
+abbrev pub read_reply : Result PlanRead Refusal → Reply
+read_reply (Ok p) = answered (read_values p)
+read_reply (Err r) = refused r

@@ -1,5 +1,5 @@
 -- What the writer answers. Assumes nothing.
-use Rattle.std.specs.Prelude.{Bool, false, ◌||◌, List, [], ◌∷◌, ◌++◌, ℕ, ltb, length, get_or, drop}
+use Rattle.std.specs.Prelude.{Bool, false, ◌||◌, List, [], ◌∷◌, ◌++◌, ℕ, ltb, length, get_or, drop, Result, Ok, Err}
 use Rattle.std.proofs.Math.Option.{Option, none, some}
 use Rattle.rules.specs.declared.Faults.{Faults}
 use Rattle.tables.specs.declared.refusal.Refusal.{Refusal}
@@ -7,8 +7,6 @@ use Rattle.tables.specs.declared.refusal.Refusal.TheVariants as refusal
 use Rattle.tables.specs.Refusals.{Reply, refused, answered}
 use Rattle.checks.specs.Checks.{first_refusal, or_answer, first_from, when, found}
 use Rattle.rules.specs.declared.Fields.{Fields}
-use Rattle.planfile.specs.declared.write.WriteAnswer.{WriteAnswer}
-use Rattle.planfile.specs.declared.write.WriteAnswer.TheVariants.{Written, Refused}
 use Rattle.blocks.specs.Letters.{qpl2}
 use Rattle.blocks.specs.File.{file_of, file_length}
 use Rattle.tables.specs.Law.{allows, law_out}
@@ -50,6 +48,6 @@ file_after none f settings file = file_of qpl2 f settings ++ drop (file_length f
 file_after (some r) f settings file = file
 
 -- the number and values of the writer's answer: the length of the file
-abbrev pub write_reply : WriteAnswer → Reply
-write_reply (Written n) = answered (n ∷ [])
-write_reply (Refused r) = refused r
+abbrev pub write_reply : Result ℕ Refusal → Reply
+write_reply (Ok n) = answered (n ∷ [])
+write_reply (Err r) = refused r

@@ -2,5 +2,6 @@
 #![tactic(auto)]
 
 pub mod header;
+pub mod lengths;
 pub mod read;
 pub mod write;

@@ -1,5 +1,5 @@
 -- How a call keeps its promise where the checks have passed: one law for each way out. Assumes nothing.
-use mathlib.Core.Path.{◌≡◌, refl, sym, ap, ◌∙◌}
+use mathlib.Core.Path.{◌≡◌, refl, sym, ◌∙◌}
 use mathlib.Core.Bool.{false}
 use mathlib.Core.List.{List}
 use Prim.Native.Nat.{ℕ}
@@ -13,16 +13,13 @@ use Rattle.walk.specs.declared.Totals.{Totals}
 use Rattle.trellis.specs.Choices.{chosen}
 use Rattle.walk.specs.Walked.{TotalsOf, total_values}
 use Rattle.promise.specs.Promise.{Promise, unsound, no_sequence, none_within, planned, totals}
-use Rattle.checks.specs.Stages.{ended, CheckedAs}
-use Rattle.checks.specs.declared.stage.Stage.{Stage}
-use Rattle.checks.specs.declared.stage.Stage.TheVariants as stage
-use mathlib.Core.Option.{Option}
+use Rattle.checks.specs.Stages.{CheckedAs}
+use Rattle.std.specs.Prelude.{Err}
+use mathlib.Core.Option.{Option, some}
 use Rattle.seek.specs.Sought.{Framed, Closed, Finished}
 use Rattle.planner.specs.Given.{Delivered}
 use Rattle.seek.specs.Started.{StartedAs, start_reply, fits, none_allowed, none_fits}
 use Rattle.tables.proofs.RefusalLaws.{answered_or_refused}
-use Rattle.seek.specs.declared.start.Started.{Started}
-use Rattle.seek.specs.declared.start.Started.TheVariants as started
 use Rattle.seek.proofs.SeekLaws.{wiped_same}
 
 -- the values of an answer are the sequence's totals
@@ -44,12 +41,9 @@ module _ {further : Option Refusal} {a : Asked} {within : List ℕ → Type 0} {
   says_planned {v = v} f p = planned sound (chosen a.Q a.N middle) v p refl f.handed (f.wiped ∙ wiped_same framed)
 
 -- what the checks answer, at a call's own ways out
-pub checked_sound : {further further' : Option Refusal} {a : Asked} {z : Stage} → further ≡ further' → CheckedAs further a (ended z) → z ≡ stage.Passed → Sound further' a
-checked_sound f h e = rw (← f) (rw e at h)
-
 pub checked_refused : {further further' : Option Refusal} {a : Asked} {within : List ℕ → Type 0} {Plan : List ℕ → List ℕ → Type 0} {plan scratch : List ℕ}
-    {z : Stage} {r : Refusal} → further ≡ further' → CheckedAs further a (ended z) → z ≡ stage.Stopped r → Promise further' a within Plan plan scratch (refused r) plan scratch
-checked_refused {r = r} f h e = unsound {r = r} (rw (← f) (rw e at h)) refl refl refl
+    {r : Refusal} → further ≡ further' → CheckedAs further a (some r) → Promise further' a within Plan plan scratch (refused r) plan scratch
+checked_refused {r = r} f h = unsound {r = r} (rw f at h) refl refl refl
 
 -- how a call with a budget goes on from its start
 refused_start : {further : Option Refusal} {a : Asked} {B : ℕ} {Plan : List ℕ → List ℕ → Type 0} {plan scratch scratch' : List ℕ} {o : Reply} (r : Refusal) →
@@ -59,10 +53,10 @@ refused_start r sound (fits t f) e = absurd (answered_or_refused r e)
 refused_start r sound (none_allowed n w) e = no_sequence sound n (sym e) refl w
 refused_start r sound (none_fits n w) e = none_within sound n (sym e) refl w
 
-pub started_refused : {further : Option Refusal} {a : Asked} {B : ℕ} {Plan : List ℕ → List ℕ → Type 0} {plan scratch scratch' : List ℕ} {st : Started} {r : Refusal} →
-    Sound further a → StartedAs (problem_of a) a.N a.Q B scratch scratch' (start_reply st) → st ≡ started.Refused r →
+pub started_refused : {further : Option Refusal} {a : Asked} {B : ℕ} {Plan : List ℕ → List ℕ → Type 0} {plan scratch scratch' : List ℕ} (r : Refusal) →
+    Sound further a → StartedAs (problem_of a) a.N a.Q B scratch scratch' (start_reply (Err r)) →
     Promise further a (InBudget (problem_of a) B) Plan plan scratch (refused r) plan scratch'
-started_refused {r = r} sound h e = refused_start r sound h (ap start_reply e)
+started_refused r sound h = refused_start r sound h refl
 
 pub started_given : {further : Option Refusal} {a : Asked} {within : List ℕ → Type 0} {Plan : List ℕ → List ℕ → Type 0} {plan scratch middle plan' scratch' : List ℕ}
     {reply : Reply} → Sound further a → Framed (scratch_need a.N a.Q) scratch middle → Delivered Plan a.N a.Q plan middle reply plan' scratch' →

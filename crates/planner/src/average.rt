@@ -4,168 +4,72 @@
 // that fits and the last that does not, and replaces the one on its side, until it costs what they do: then it is the plan, and the tie with
 // the one over B shows that no smaller multiplier's plan fits.
 ghost use Rattle.std.proofs.Math.Option.{none};
-ghost use Rattle.std.specs.Prelude.{◌≤◌, length};
-ghost use Rattle.checks.specs.Planning.{Sound, asking};
-ghost use Rattle.tables.specs.Tables.{table, planning};
-ghost use Rattle.checks.specs.Fit.{Fit};
+ghost use Rattle.std.specs.Prelude.{◌≤◌, length, Ok};
+ghost use Rattle.tables.specs.Tables.{scratch_need};
+ghost use Rattle.checks.specs.Planning.{Sound};
+ghost use Rattle.checks.specs.Given.{asked_of, asked_in, planning_in};
 ghost use Rattle.seek.specs.Sought.{ThriftyTotals};
 ghost use Rattle.planner.specs.Given.{Delivered};
 ghost use Rattle.promise.specs.Promise.{AveragePromise, IsAveragePlan, average_reply};
 
-use checks::check::check;
-use checks::stage::Stage;
+use checks::checked::Checked;
+use checks::lent::Tables;
 use floor::answer;
-use promise::AverageAnswer;
+use keys::cost::Ratio;
+use promise::AveragePlan;
 use search::slopes::{Bracket, slopes};
 use seek::finish::finish;
 use seek::passes::multiplier_pass;
-use seek::start::{Started, start};
+use seek::start::start;
+use tables::refusal::Refusal;
 use walk::{Totals, total_up};
 
 // Where the least-rate plan, lo, fits: the plan at multiplier zero, or the slopes.
 fn average_that_fits(
-    scans: usize,
-    settings: usize,
-    law: u64,
+    t: &Checked,
     budget: u64,
     lo: Totals,
-    rates: &[u32],
-    distortions: &[u32],
-    weights: &[u8],
     plan: &mut [u8],
     scratch: &mut [u8],
-) -> AverageAnswer
-    requires fit { Fit scans settings rates.now distortions.now weights.now (length scratch.old) × (scans ≤ length plan.old) }
-    requires thrifty_totals { ThriftyTotals (planning (table scans settings law rates.now distortions.now weights.now)) budget lo }
-    ensures { Delivered (IsAveragePlan (planning (table scans settings law rates.now distortions.now weights.now)) budget) scans settings plan.old scratch.old (average_reply result) plan.new scratch.new }
+) -> AveragePlan
+    requires room { (scratch_need t.now.scans t.now.settings ≤ length scratch.old) × (t.now.scans ≤ length plan.old) }
+    requires thrifty_totals { ThriftyTotals (planning_in t.now) budget lo }
+    ensures { Delivered (IsAveragePlan (planning_in t.now) budget) t.now.scans t.now.settings plan.old scratch.old (average_reply (Ok result)) plan.new scratch.new }
 {
-    multiplier_pass(
-        scans,
-        settings,
-        law,
-        0,
-        1,
-        rates,
-        distortions,
-        weights,
-        scratch,
-    );
-    let hi = total_up(scans, settings, law, rates, distortions, weights, scratch);
+    let zero = Ratio { n: 0, d: 1 };
+    multiplier_pass(t, zero, scratch);
+    let hi = total_up(t, scratch);
     if hi.rate.0 <= budget {
-        let totals = finish(
-            scans,
-            settings,
-            law,
-            rates,
-            distortions,
-            weights,
-            plan,
-            scratch,
-        );
-        return AverageAnswer::Planned(answer(0, 1, budget, totals));
+        let totals = finish(t, plan, scratch);
+        return answer(zero, budget, totals);
     }
-    let s = slopes(
-        scans,
-        settings,
-        law,
-        budget,
-        Bracket { lo, hi },
-        rates,
-        distortions,
-        weights,
-        scratch,
-    );
-    let totals = finish(
-        scans,
-        settings,
-        law,
-        rates,
-        distortions,
-        weights,
-        plan,
-        scratch,
-    );
-    AverageAnswer::Planned(answer(s.n, s.d, budget, totals))
+    let s = slopes(t, budget, Bracket { lo, hi }, scratch);
+    let totals = finish(t, plan, scratch);
+    answer(s, budget, totals)
 }
 
 // Where the checks have passed.
 fn sound_average(
-    scans: usize,
-    settings: usize,
-    law: u64,
+    t: &Checked,
     budget: u64,
-    rates: &[u32],
-    distortions: &[u32],
-    weights: &[u8],
     plan: &mut [u8],
     scratch: &mut [u8],
-) -> AverageAnswer
-    requires { Sound none (asking scans settings law rates.now distortions.now weights.now (length plan.old) (length scratch.old)) }
-    ensures { AveragePromise (asking scans settings law rates.now distortions.now weights.now (length plan.old) (length scratch.old)) budget plan.old scratch.old result plan.new scratch.new }
+) -> Result<AveragePlan, Refusal>
+    requires { Sound none (asked_in t.now (length plan.old) (length scratch.old)) }
+    ensures { AveragePromise (asked_in t.now (length plan.old) (length scratch.old)) budget plan.old scratch.old result plan.new scratch.new }
 {
-    let started = start(
-        scans,
-        settings,
-        law,
-        budget,
-        rates,
-        distortions,
-        weights,
-        scratch,
-    );
-    match started {
-        Started::Plan(lo) => average_that_fits(
-            scans,
-            settings,
-            law,
-            budget,
-            lo,
-            rates,
-            distortions,
-            weights,
-            plan,
-            scratch,
-        ),
-        Started::Refused(r) => AverageAnswer::Refused(r),
-    }
+    let lo = start(t, budget, scratch)?;
+    Ok(average_that_fits(t, budget, lo, plan, scratch))
 }
 
 pub fn average_plan(
-    scans: u64,
-    settings: u64,
-    law: u64,
+    tables: &Tables,
     budget: u64,
-    rates: &[u32],
-    distortions: &[u32],
-    weights: &[u8],
     plan: &mut [u8],
     scratch: &mut [u8],
-) -> AverageAnswer
-    ensures { AveragePromise (asking scans settings law rates.now distortions.now weights.now (length plan.old) (length scratch.old)) budget plan.old scratch.old result plan.new scratch.new }
+) -> Result<AveragePlan, Refusal>
+    ensures { AveragePromise (asked_of tables.now (length plan.old) (length scratch.old)) budget plan.old scratch.old result plan.new scratch.new }
 {
-    let checked = check(
-        scans,
-        settings,
-        law,
-        Stage::Passed,
-        rates,
-        distortions,
-        weights,
-        plan.len(),
-        scratch.len(),
-    );
-    let Stage::Stopped(r) = checked else {
-        return sound_average(
-            scans as usize,
-            settings as usize,
-            law,
-            budget,
-            rates,
-            distortions,
-            weights,
-            plan,
-            scratch,
-        );
-    };
-    AverageAnswer::Refused(r)
+    let t = tables.check(Ok(()), plan.len(), scratch.len())?;
+    sound_average(&t, budget, plan, scratch)
 }

@@ -1,13 +1,10 @@
 -- Document 01, "Bench tables": the lines that bench writes. Assumes nothing.
-use Rattle.std.specs.Prelude.{cond, List, [], ◌∷◌, ◌++◌, ℕ, zero, suc, ◌+◌, ◌/◌, ◌%◌, eqb, ltb}
+use Rattle.std.specs.Prelude.{cond, Ok, Err, List, [], ◌∷◌, ◌++◌, ℕ, zero, suc, ◌+◌, ◌/◌, ◌%◌, eqb, ltb}
 use Rattle.tables.specs.Refusals.{number_of, carried_by}
 use Rattle.walk.specs.declared.Totals.{Totals}
 use Rattle.promise.specs.declared.AveragePlan.{AveragePlan}
 use Rattle.promise.specs.declared.MinmaxPlan.{MinmaxPlan}
-use Rattle.promise.specs.declared.AverageAnswer.{AverageAnswer}
-use Rattle.promise.specs.declared.MinmaxAnswer.{MinmaxAnswer}
-use Rattle.promise.specs.declared.AverageAnswer.TheVariants as average_answer
-use Rattle.promise.specs.declared.MinmaxAnswer.TheVariants as minmax_answer
+use Rattle.promise.specs.Answers.{MinmaxAnswer, AverageAnswer}
 use Rattle.printing.specs.declared.line.Said.{Said}
 use Rattle.printing.specs.declared.line.Said.TheVariants.{Average, Minmax, Refused}
 
@@ -105,12 +102,12 @@ line first said settings = first ++ said_text said settings ++ line_end
 
 -- what is said of an answer, and its line: the first of the average call, the second of the minmax call
 abbrev pub average_said : AverageAnswer → Said
-average_said (average_answer.Planned p) = Average p
-average_said (average_answer.Refused r) = Refused r
+average_said (Ok p) = Average p
+average_said (Err r) = Refused r
 
 abbrev pub minmax_said : MinmaxAnswer → Said
-minmax_said (minmax_answer.Planned p) = Minmax p
-minmax_said (minmax_answer.Refused r) = Refused r
+minmax_said (Ok p) = Minmax p
+minmax_said (Err r) = Refused r
 
 abbrev pub ave_line : AverageAnswer → List ℕ → List ℕ
 ave_line answer settings = line ave (average_said answer) settings

@@ -1,4 +1,4 @@
-// The lines that bench writes, into a lent buffer from a place on.
+// The lines that bench writes, into a lent buffer.
 #![tactic(auto)]
 
 pub mod line;

@@ -1,32 +1,29 @@
 // The settings of a plan, one after the other.
-ghost use Rattle.std.specs.Prelude.{◌+◌, ◌*◌, ◌≤◌, ◌<◌, length};
+ghost use Rattle.std.specs.Prelude.{◌+◌, ◌*◌, ◌≤◌, length};
 ghost use Rattle.printing.specs.Lines.{numbered, planned};
-ghost use Rattle.laws.specs.Put.{Put};
+ghost use Rattle.printing.specs.Puts.{Puts};
 
-use crate::put::{put, put_spaced};
-use octets::cast::byte_to_number;
+use crate::put::Text;
 
-// A space and three digits at most for each setting.
-fn put_settings(out: &mut [u8], at: usize, settings: &[u8]) -> usize
-    requires { at + 4 * length settings.now ≤ length out.old }
-    ensures put { Put out.old at (numbered settings.now) out.new result }
-    ensures upper_bound { result ≤ at + 4 * length settings.now }
-{
-    let mut next = at;
-    let mut i = 0;
-    while i < settings.len() {
-        next = put_spaced(out, next, byte_to_number(settings[i]));
-        i += 1;
+impl Text<'_> {
+    // A space and three digits at most for each setting.
+    fn put_settings(&mut self, settings: &[u8])
+        requires { self.old.at + 4 * length settings.now ≤ length self.old.out.now }
+        ensures put { Puts self.old (numbered settings.now) self.new }
+        ensures upper_bound { self.new.at ≤ self.old.at + 4 * length settings.now }
+    {
+        for s in settings {
+            self.put_spaced(u64::from(*s));
+        }
     }
-    next
-}
 
-// " plan" and the settings.
-pub fn put_planned(out: &mut [u8], at: usize, settings: &[u8]) -> usize
-    requires { at + (5 + 4 * length settings.now) ≤ length out.old }
-    ensures put { Put out.old at (planned settings.now) out.new result }
-    ensures upper_bound { result ≤ at + (5 + 4 * length settings.now) }
-{
-    let numbers = put(out, at, b" plan");
-    put_settings(out, numbers, settings)
+    // " plan" and the settings.
+    pub fn put_planned(&mut self, settings: &[u8])
+        requires { self.old.at + (5 + 4 * length settings.now) ≤ length self.old.out.now }
+        ensures put { Puts self.old (planned settings.now) self.new }
+        ensures upper_bound { self.new.at ≤ self.old.at + (5 + 4 * length settings.now) }
+    {
+        self.put(b" plan");
+        self.put_settings(settings);
+    }
 }

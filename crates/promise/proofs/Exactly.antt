@@ -1,5 +1,6 @@
 -- 8 exactly when no sequence is allowed, and 9 exactly when some is and none is within the limit, so never for a multiplier.
 -- Assumes nothing.
+use Rattle.promise.specs.Answers.{PlanAnswer, MinmaxAnswer, AverageAnswer}
 use mathlib.Core.Path.{◌≡◌, sym, ap, ◌∙◌}
 use mathlib.Core.Logic.{◌↔◌}
 use mathlib.Core.Bool.{Bool}
@@ -14,9 +15,6 @@ use Rattle.tables.specs.Refusals.{Reply, refused, number_of}
 use Rattle.checks.specs.Planning.{Asked, UnsoundBy, early, illegal, problem_of, fourth_check, multiplier_out}
 use Rattle.tables.proofs.RefusalLaws.{refused_unique, answered_or_refused}
 use Rattle.laws.proofs.Tests.{never}
-use Rattle.promise.specs.declared.PlanAnswer.{PlanAnswer}
-use Rattle.promise.specs.declared.MinmaxAnswer.{MinmaxAnswer}
-use Rattle.promise.specs.declared.AverageAnswer.{AverageAnswer}
 use Rattle.promise.specs.Says.{ExactlyOver, SaysExactly}
 use Rattle.promise.specs.Promise.{PromiseOver, unsound, no_sequence, none_within, planned, plan_reply, minmax_reply, average_reply, CeilingPromise, MultiplierPromise, MinmaxPromise, AveragePromise}
 use Rattle.promise.proofs.Unique.{ceiling_within, multiplier_within, minmax_within, average_within}

@@ -1,4 +1,5 @@
 -- Every question of a planning call has an answer that keeps its promise, under any law that has a test. Assumes nothing.
+use Rattle.std.specs.Prelude.{Ok, Err}
 use mathlib.Core.Path.{◌≡◌, refl}
 use mathlib.Core.Logic.{◌⊎◌, inl, inr}
 use mathlib.Core.Bool.{Bool, true, false, cond}
@@ -21,9 +22,6 @@ use Rattle.tables.proofs.Listing.{table_finite}
 use Rattle.legal.proofs.LegalLaws.{lowest_or_all}
 use Rattle.checks.specs.Planning.{Asked, UnsoundBy, SoundBy, early, illegal, first_early, buffers_short, table_of, problem_of, weigh_of, fourth_check}
 use Rattle.walk.specs.declared.Totals.{Totals}
-use Rattle.promise.specs.declared.PlanAnswer.TheVariants as plan_answer
-use Rattle.promise.specs.declared.MinmaxAnswer.TheVariants as minmax_answer
-use Rattle.promise.specs.declared.AverageAnswer.TheVariants as average_answer
 use Rattle.promise.specs.Says.{SomeAnswer}
 use Rattle.promise.specs.Promise.{PromiseOver, Promise, unsound, no_sequence, none_within, planned, wiped, handed, totals, IsCeilingPlan, IsMultiplierPlan, IsMinmaxPlan, IsAveragePlan, plan_reply, minmax_reply, average_reply, CeilingPromise, MultiplierPromise, MinmaxPromise, AveragePromise}
 
@@ -133,16 +131,16 @@ module _ (a : Asked) {test : ℕ → ℕ → Bool} (tests : Tests test a.law) wh
   module _ (plan scratch : List ℕ) where
     pub ceiling_some : (X : ℕ) → SomeAnswer (CeilingPromise a X plan scratch)
     unfolding totals_of
-    ceiling_some X = some_answer plan_reply plan_answer.Refused (λ r. refl) none a (UnderCeiling P X) (IsCeilingPlan P X) plan scratch (some_or_none P fin)
+    ceiling_some X = some_answer plan_reply Err (λ r. refl) none a (UnderCeiling P X) (IsCeilingPlan P X) plan scratch (some_or_none P fin)
         (some_of P fin (UnderCeiling P X) (λ t. dec_× (fin.decide t) (dec_le (P.peak t) X)) (λ t w. w.0))
         (λ t w. let s = some_ceiling P fin X t w in
-        record { settings = s.0; values = totals P s.0; is_plan = (s.1, refl); answer = plan_answer.Planned (totals_of P s.0); told = refl })
+        record { settings = s.0; values = totals P s.0; is_plan = (s.1, refl); answer = Ok (totals_of P s.0); told = refl })
 
     pub multiplier_some : (n d : ℕ) → SomeAnswer (MultiplierPromise a n d plan scratch)
     unfolding totals_of
-    multiplier_some n d = some_answer plan_reply plan_answer.Refused (λ r. refl) (fourth_check n d) a P.allowed (IsMultiplierPlan P n d) plan scratch (some_or_none P fin) (some_of P fin P.allowed fin.decide (λ t w. w))
+    multiplier_some n d = some_answer plan_reply Err (λ r. refl) (fourth_check n d) a P.allowed (IsMultiplierPlan P n d) plan scratch (some_or_none P fin) (some_of P fin P.allowed fin.decide (λ t w. w))
         (λ t w. let s = some_plan P fin t w n d in
-        record { settings = s.0; values = totals P s.0; is_plan = (s.1, refl); answer = plan_answer.Planned (totals_of P s.0); told = refl })
+        record { settings = s.0; values = totals P s.0; is_plan = (s.1, refl); answer = Ok (totals_of P s.0); told = refl })
 
     -- whether some sequence is within a budget
     pub in_budget? : (B : ℕ) → ((t : List ℕ) × InBudget P B t) ⊎ ((t : List ℕ) → InBudget P B t → ⊥)
@@ -150,19 +148,19 @@ module _ (a : Asked) {test : ℕ → ℕ → Bool} (tests : Tests test a.law) wh
 
     pub minmax_some : (B : ℕ) → SomeAnswer (MinmaxPromise a B plan scratch)
     unfolding totals_of
-    minmax_some B = some_answer minmax_reply minmax_answer.Refused (λ r. refl) none a (InBudget P B) (IsMinmaxPlan P B) plan scratch (some_or_none P fin) (in_budget? B)
+    minmax_some B = some_answer minmax_reply Err (λ r. refl) none a (InBudget P B) (IsMinmaxPlan P B) plan scratch (some_or_none P fin) (in_budget? B)
         (λ t w. let m = some_minmax P fin B t w in
         record {
           settings = m.1;
           values = m.0 ∷ totals P m.1;
           is_plan = record { ceiling = m.0; plan = m.2; values = refl };
-          answer = minmax_answer.Planned (record { ceiling = m.0; totals = totals_of P m.1 });
+          answer = Ok (record { ceiling = m.0; totals = totals_of P m.1 });
           told = refl;
         })
 
     pub average_some : (B : ℕ) → SomeAnswer (AveragePromise a B plan scratch)
     unfolding totals_of
-    average_some B = some_answer average_reply average_answer.Refused (λ r. refl) none a (InBudget P B) (IsAveragePlan P B) plan scratch (some_or_none P fin) (in_budget? B)
+    average_some B = some_answer average_reply Err (λ r. refl) none a (InBudget P B) (IsAveragePlan P B) plan scratch (some_or_none P fin) (in_budget? B)
         (λ t w. let m = some_average P fin B t w in
         let F = (m.1 * P.distortion m.2 + m.0 * P.rate m.2 - m.0 * B + (m.1 - 1)) / m.1 in
         record {
@@ -176,6 +174,6 @@ module _ (a : Asked) {test : ℕ → ℕ → Bool} (tests : Tests test a.law) wh
             proves = floor_value m.0 m.1 B (P.distortion m.2) (P.rate m.2) m.3.lowest.whole;
             values = refl;
           };
-          answer = average_answer.Planned (record { n = m.0; d = m.1; floor = record { 0 = F }; totals = totals_of P m.2 });
+          answer = Ok (record { n = m.0; d = m.1; floor = record { 0 = F }; totals = totals_of P m.2 });
           told = refl;
         })

@@ -1,4 +1,5 @@
 -- No answer of a planning call depends on a distortion beside a forbidden rate. Assumes nothing.
+use Rattle.promise.specs.Answers.{PlanAnswer, MinmaxAnswer, AverageAnswer}
 use mathlib.Core.Path.{◌≡◌, refl, sym, ◌∙◌}
 use mathlib.Core.List.{List}
 use Prim.Native.Nat.{ℕ}
@@ -7,9 +8,6 @@ use Rattle.tables.specs.declared.refusal.Refusal.{Refusal}
 use Rattle.tables.specs.Legal.{SameShown}
 use Rattle.checks.specs.Planning.{Asked, Unsound, early, illegal, Sound, first_early, early_refusal, asking_under, table_of, problem_of, weigh_of, fourth_check}
 use Rattle.tables.proofs.HiddenLaws.{shown_agrees, all_legal_same, lowest_illegal_same}
-use Rattle.promise.specs.declared.PlanAnswer.{PlanAnswer}
-use Rattle.promise.specs.declared.MinmaxAnswer.{MinmaxAnswer}
-use Rattle.promise.specs.declared.AverageAnswer.{AverageAnswer}
 use Rattle.promise.specs.Promise.{CeilingPromise, MultiplierPromise, MinmaxPromise, AveragePromise}
 use Rattle.promise.proofs.Moves.{ceiling_moves, multiplier_moves, minmax_moves, average_moves}
 use mathlib.Core.Option.{Option, none}

@@ -1,4 +1,6 @@
 -- One answer and one content of every lent byte for equal inputs, of each planning call. Assumes nothing.
+use Rattle.promise.specs.Answers.{PlanAnswer, MinmaxAnswer, AverageAnswer}
+use Rattle.std.specs.Prelude.{Ok, Err}
 use mathlib.Core.Path.{◌≡◌, sym, ap, ◌∙◌}
 use mathlib.Core.Logic.{◌⊎◌, inl, inr}
 use mathlib.Core.List.{List}
@@ -12,12 +14,6 @@ use Rattle.tables.specs.Refusals.{Reply, refused, answered}
 use Rattle.checks.specs.Planning.{Asked, problem_of}
 use Rattle.tables.proofs.RefusalLaws.{refused_unique, answered_or_refused}
 use Rattle.walk.specs.declared.Totals.{Totals}
-use Rattle.promise.specs.declared.PlanAnswer.{PlanAnswer}
-use Rattle.promise.specs.declared.PlanAnswer.TheVariants as plan_answer
-use Rattle.promise.specs.declared.MinmaxAnswer.{MinmaxAnswer}
-use Rattle.promise.specs.declared.MinmaxAnswer.TheVariants as minmax_answer
-use Rattle.promise.specs.declared.AverageAnswer.{AverageAnswer}
-use Rattle.promise.specs.declared.AverageAnswer.TheVariants as average_answer
 use Rattle.promise.specs.Promise.{PromiseOver, Promise, unsound, no_sequence, none_within, planned, handed, totals, IsCeilingPlan, IsMultiplierPlan, IsMinmaxPlan, IsAveragePlan, plan_reply, minmax_reply, average_reply, CeilingPromise, MultiplierPromise, MinmaxPromise, AveragePromise}
 use Rattle.checks.proofs.PlanningLaws.{unsound_unique, sound_or_not}
 use mathlib.Core.Option.{Option}
@@ -99,31 +95,31 @@ totals_from v i = record { rate = record { 0 = get_or v i 0 }; distortion = reco
 
 pub plan_answer_unique : (r r' : PlanAnswer) → plan_reply r ≡ plan_reply r' → r ≡ r'
 unfolding totals_from
-plan_answer_unique (plan_answer.Planned t) (plan_answer.Planned t') e = ap (λ (x : Reply). plan_answer.Planned (totals_from x.values 0)) e
-plan_answer_unique (plan_answer.Planned t) (plan_answer.Refused r) e = absurd (answered_or_refused r e)
-plan_answer_unique (plan_answer.Refused r) (plan_answer.Planned t) e = absurd (answered_or_refused r (sym e))
-plan_answer_unique (plan_answer.Refused r) (plan_answer.Refused r') e = ap plan_answer.Refused (refused_unique e)
+plan_answer_unique (Ok t) (Ok t') e = ap (λ (x : Reply). Ok (totals_from x.values 0)) e
+plan_answer_unique (Ok t) (Err r) e = absurd (answered_or_refused r e)
+plan_answer_unique (Err r) (Ok t) e = absurd (answered_or_refused r (sym e))
+plan_answer_unique (Err r) (Err r') e = ap Err (refused_unique e)
 
 pub minmax_answer_unique : (r r' : MinmaxAnswer) → minmax_reply r ≡ minmax_reply r' → r ≡ r'
 unfolding totals_from
-minmax_answer_unique (minmax_answer.Planned m) (minmax_answer.Planned m') e =
-    ap (λ (x : Reply). minmax_answer.Planned (record { ceiling = get_or x.values 0 0; totals = totals_from x.values 1 })) e
-minmax_answer_unique (minmax_answer.Planned m) (minmax_answer.Refused r) e = absurd (answered_or_refused r e)
-minmax_answer_unique (minmax_answer.Refused r) (minmax_answer.Planned m) e = absurd (answered_or_refused r (sym e))
-minmax_answer_unique (minmax_answer.Refused r) (minmax_answer.Refused r') e = ap minmax_answer.Refused (refused_unique e)
+minmax_answer_unique (Ok m) (Ok m') e =
+    ap (λ (x : Reply). Ok (record { ceiling = get_or x.values 0 0; totals = totals_from x.values 1 })) e
+minmax_answer_unique (Ok m) (Err r) e = absurd (answered_or_refused r e)
+minmax_answer_unique (Err r) (Ok m) e = absurd (answered_or_refused r (sym e))
+minmax_answer_unique (Err r) (Err r') e = ap Err (refused_unique e)
 
 pub average_answer_unique : (r r' : AverageAnswer) → average_reply r ≡ average_reply r' → r ≡ r'
 unfolding totals_from
-average_answer_unique (average_answer.Planned m) (average_answer.Planned m') e =
-    ap (λ (x : Reply). average_answer.Planned (record {
+average_answer_unique (Ok m) (Ok m') e =
+    ap (λ (x : Reply). Ok (record {
       n = get_or x.values 0 0;
       d = get_or x.values 1 0;
       floor = record { 0 = get_or x.values 5 0 };
       totals = totals_from x.values 2;
     })) e
-average_answer_unique (average_answer.Planned m) (average_answer.Refused r) e = absurd (answered_or_refused r e)
-average_answer_unique (average_answer.Refused r) (average_answer.Planned m) e = absurd (answered_or_refused r (sym e))
-average_answer_unique (average_answer.Refused r) (average_answer.Refused r') e = ap average_answer.Refused (refused_unique e)
+average_answer_unique (Ok m) (Err r) e = absurd (answered_or_refused r e)
+average_answer_unique (Err r) (Ok m) e = absurd (answered_or_refused r (sym e))
+average_answer_unique (Err r) (Err r') e = ap Err (refused_unique e)
 
 -- The theorems, one for each call: equal inputs leave one answer and one content of every buffer.
 module _ {a : Asked} {plan scratch p p' s s' : List ℕ} where

@@ -1,5 +1,7 @@
 -- What a planning call promises: one relation between what it was asked, what it answers and what it leaves in the lent buffers.
 -- Assumes nothing.
+use Rattle.promise.specs.Answers.{PlanAnswer, MinmaxAnswer, AverageAnswer}
+use Rattle.std.specs.Prelude.{Ok, Err}
 use Rattle.std.specs.Prelude.{◌≡◌, List, [], ◌∷◌, ◌++◌, ℕ, drop, replicate}
 use Rattle.std.proofs.Math.Option.{Option, none}
 use Rattle.criteria.specs.Choice.{Problem, UnderCeiling, InBudget, Ceiling, Multiplier, Average, AverageFloor, Minmax, NoneAllowed, NoneWithin}
@@ -8,12 +10,6 @@ use Rattle.tables.specs.declared.refusal.Refusal.TheVariants as refusal
 use Rattle.tables.specs.Refusals.{Reply, refused, answered}
 use Rattle.checks.specs.Planning.{Asked, Unsound, Sound, problem_of, fourth_check}
 use Rattle.tables.specs.Tables.{scratch_need}
-use Rattle.promise.specs.declared.PlanAnswer.{PlanAnswer}
-use Rattle.promise.specs.declared.PlanAnswer.TheVariants as plan_answer
-use Rattle.promise.specs.declared.MinmaxAnswer.{MinmaxAnswer}
-use Rattle.promise.specs.declared.MinmaxAnswer.TheVariants as minmax_answer
-use Rattle.promise.specs.declared.AverageAnswer.{AverageAnswer}
-use Rattle.promise.specs.declared.AverageAnswer.TheVariants as average_answer
 use Rattle.walk.specs.Walked.{total_values}
 
 -- the first k of a buffer are zero, and the others as they were
@@ -79,17 +75,17 @@ pub record IsAveragePlan (P : Problem) (B : ℕ) (s v : List ℕ) : Type 0 where
 
 -- The number and the values of each call's answer, in the order of the C surface.
 abbrev pub plan_reply : PlanAnswer → Reply
-plan_reply (plan_answer.Planned t) = answered (total_values t)
-plan_reply (plan_answer.Refused r) = refused r
+plan_reply (Ok t) = answered (total_values t)
+plan_reply (Err r) = refused r
 
 abbrev pub minmax_reply : MinmaxAnswer → Reply
-minmax_reply (minmax_answer.Planned m) = answered (m.ceiling ∷ total_values m.totals)
-minmax_reply (minmax_answer.Refused r) = refused r
+minmax_reply (Ok m) = answered (m.ceiling ∷ total_values m.totals)
+minmax_reply (Err r) = refused r
 
 abbrev pub average_reply : AverageAnswer → Reply
-average_reply (average_answer.Planned m) =
+average_reply (Ok m) =
     answered (m.n ∷ m.d ∷ m.totals.rate.0 ∷ m.totals.distortion.0 ∷ m.totals.peak ∷ m.floor.0 ∷ [])
-average_reply (average_answer.Refused r) = refused r
+average_reply (Err r) = refused r
 
 -- The promises of the four calls.
 abbrev pub CeilingPromise : Asked → ℕ → (plan scratch : List ℕ) → PlanAnswer → (plan' scratch' : List ℕ) → Type 0

@@ -1,4 +1,5 @@
 -- What the answers of the planning calls say: 8 and 9 exactly when true, and of an average plan all that demand 3 asks. Assumes nothing.
+use Rattle.std.specs.Prelude.{Ok}
 use Rattle.std.specs.Prelude.{◌≡◌, ◌↔◌, List, ℕ}
 use Rattle.std.proofs.Math.Option.{Option}
 use Rattle.criteria.specs.Choice.{Problem, NoneAllowed, NoneWithin}
@@ -8,7 +9,6 @@ use Rattle.tables.specs.declared.refusal.Refusal.TheVariants as refusal
 use Rattle.tables.specs.Refusals.{Reply, refused}
 use Rattle.checks.specs.Planning.{Asked, Sound, problem_of}
 use Rattle.promise.specs.declared.AveragePlan.{AveragePlan}
-use Rattle.promise.specs.declared.AverageAnswer.TheVariants as average_answer
 use Rattle.promise.specs.Promise.{handed, IsAveragePlan, average_reply}
 
 -- an answer, and what it leaves in the lent buffers, of which a promise is true
@@ -30,7 +30,7 @@ SaysExactly further a within reply = ExactlyOver (Sound further a) (problem_of a
 pub record Answered (a : Asked) (B : ℕ) (m : AveragePlan) (plan plan' : List ℕ) : Type 0 where
   pub settings : List ℕ
   -- they are the average plan, and the values of the answer are its own
-  pub is_plan : IsAveragePlan (problem_of a) B settings (average_reply (average_answer.Planned m)).values
+  pub is_plan : IsAveragePlan (problem_of a) B settings (average_reply (Ok m)).values
   -- they stand in the plan buffer
   pub handed_over : plan' ≡ handed a settings plan
   -- demand 3, of the multiplier and the floor of the answer

@@ -1,39 +1,19 @@
-// What a planning call answers.
+// What a minmax and an average call give beside the totals of a plan. Each planning call answers its plan, or the refusal: a `Result`.
 #![tactic(auto)]
 
 use keys::cost::Dist;
-use tables::refusal::Refusal;
 use walk::Totals;
 
-// Of a ceiling call and of a multiplier call.
-#[derive(Drop)]
-pub enum PlanAnswer {
-    Planned(Totals),
-    Refused(Refusal),
-}
-
-#[derive(Drop)]
+#[derive(Clone, Copy)]
 pub struct MinmaxPlan {
     pub ceiling: u64,
     pub totals: Totals,
 }
 
-#[derive(Drop)]
-pub enum MinmaxAnswer {
-    Planned(MinmaxPlan),
-    Refused(Refusal),
-}
-
-#[derive(Drop)]
+#[derive(Clone, Copy)]
 pub struct AveragePlan {
     pub n: u64,
     pub d: u64,
     pub floor: Dist,
     pub totals: Totals,
-}
-
-#[derive(Drop)]
-pub enum AverageAnswer {
-    Planned(AveragePlan),
-    Refused(Refusal),
 }

@@ -12,7 +12,7 @@ use Prim.Native.Nat.{ℕ, suc, ◌+◌, ◌*◌, ◌-◌, ◌/◌, ◌%◌, ◌�
 use native.Mathlib.Omega.{arith}
 use lib.Dec.{ltb}
 use lib.ListN.{length, get_or, set, replicate}
-use lib.Seq.{sets, length-sets}
+use lib.Seq.{sets}
 use borrow.Author.Tests.{lt-ltb, le-ltb}
 use Rattle.octets.specs.Bytes.{with_half}
 use Rattle.blocks.specs.File.{pairs}
@@ -48,10 +48,6 @@ so_far_small e h j i =
 unfoldable pub entered : List ℕ → (ℕ → ℕ) → ℕ → ℕ → List ℕ
 entered d e b j = sets d (512 * suc b + 4) (pairs (so_far e j) (1008 * b) 504)
 
--- the zeros of block b were stored to some d: the file is that d with the entries before j
-abbrev pub Entered : List ℕ → List ℕ → (ℕ → ℕ) → ℕ → ℕ → Type 0
-Entered zeros file e b j = (d : List ℕ) → zeros ≡ sets d (512 * suc b + 4) (replicate 504 0) → file ≡ entered d e b j
-
 -- before the first entry
 pub entered_none : (d : List ℕ) (e : ℕ → ℕ) (b : ℕ) → sets d (512 * suc b + 4) (replicate 504 0) ≡ entered d e b (1008 * b)
 unfolding entered
@@ -66,11 +62,6 @@ entered_all d e b j zeros =
     ap (sets d (512 * suc b + 4))
     (pairs_same (so_far e j) e (1008 * b) 504 (λ k a g.
     cases k j (λ h. so_far_before e j k h) (λ h. so_far_behind e j k h ∙ sym (zeros k h (omega arith)))))
-
--- its length is that of d
-pub length_entered : (d : List ℕ) (e : ℕ → ℕ) (b j : ℕ) → length (entered d e b j) ≡ length d
-unfolding entered
-length_entered d e b j = length-sets d (512 * suc b + 4) (pairs (so_far e j) (1008 * b) 504)
 
 -- the byte of entry j with the entry
 byte_more : (e : ℕ → ℕ) → ((i : ℕ) → e i < 16) → (j m : ℕ) → m % 2 ≡ 0 → m ≤ j → j < m + 2

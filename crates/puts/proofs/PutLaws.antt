@@ -5,7 +5,7 @@ use Prim.Native.Nat.{ℕ, suc, ◌+◌, ◌*◌, ◌≤◌}
 use native.Mathlib.Omega.{arith}
 use native.Mathlib.Numerals.{add-one}
 use lib.ListN.{length, replicate, length-append, length-replicate}
-use lib.Seq.{sets, length-sets}
+use lib.Seq.{sets}
 use Rattle.rules.specs.declared.Fields.{Fields}
 use Rattle.octets.specs.Bytes.{le, part}
 use Rattle.blocks.specs.BlockCheck.{check_of}
@@ -37,10 +37,6 @@ with_check version d l file after at h s e =
     ap (part at 508) s.so ∙ ap (λ (k : ℕ). part at k (sets d at l)) (sym s.long) ∙ part_sets d l at (omega (arith, s.long)) in
     (next (at + 508) (le 4 (check_of version l)) s (e ∙ ap (λ (b : List ℕ). sets file (at + 508) (le 4 (check_of version b))) p)
     (length_le 4 (check_of version l)) refl).so
-
--- a store changes no length
-pub length_kept : (a : List ℕ) {b : List ℕ} (at : ℕ) (m : List ℕ) → b ≡ sets a at m → length b ≡ length a
-length_kept a at m e = ap length e ∙ length-sets a at m
 
 -- the fields of block 0, one after the other
 pub header_stored : (version : ℕ) (f : Fields) (d a b c e g h i j k l m n o p q r : List ℕ)

@@ -1,4 +1,5 @@
 -- A call over the front of a lent buffer is a call over the buffer, and what a planning call answers is told. Assumes nothing.
+use Rattle.promise.specs.Answers.{PlanAnswer}
 use mathlib.Core.Path.{◌≡◌, refl, sym, ap, ◌∙◌}
 use mathlib.Core.Bool.{Bool}
 use mathlib.Core.Option.{Option, none, some}
@@ -23,7 +24,6 @@ use Rattle.exports.specs.Export.{export_text, export_refusal, text_after}
 use Rattle.exports.proofs.ExportLaws.{export_room}
 use Rattle.checks.proofs.GiveLaws.{Gives, gives_when}
 use Rattle.checks.proofs.PlanningLaws.{sound_fit, sound_plan}
-use Rattle.promise.specs.declared.PlanAnswer.{PlanAnswer}
 use Rattle.best.specs.Best.{BestPromise}
 use Rattle.best.proofs.CallLaws.{ready}
 use Rattle.telling.specs.Told.{Told, lent}

@@ -8,10 +8,10 @@ use Prim.Native.Nat.{ℕ, ◌+◌, ◌≤◌, ◌<◌}
 use native.Mathlib.Omega.{arith}
 use native.Mathlib.Numerals.{add-one}
 use lib.ListN.{length, take, set, get_or, length-set}
-use lib.Seq.{take-suc-set, take-suc, take_all}
+use lib.Seq.{take-suc-set, take-suc}
 use Rattle.reading.specs.Text.{Open, between, words, words_from, most_number, separator, grown, closed}
-use Rattle.reading.specs.Fed.{Shows, as_words, taken_of, Fed, so_far, stopped}
-use Rattle.reading.specs.Parts.{Grows, refusal}
+use Rattle.reading.specs.Fed.{Shows, as_words, taken_of, Fed, so_far, stopped, Starts, Feeds}
+use Rattle.reading.specs.Parts.{Grows, Closes, refusal}
 use Rattle.reading.specs.declared.Word.{Word}
 use Rattle.reading.specs.declared.Word.TheVariants.{Between, Digits, Other}
 use Rattle.reading.specs.declared.State.{State}
@@ -54,9 +54,9 @@ known_closed text before w c h k rest =
     ∙ sym (append_assoc before (closed w) (words_from between rest))
 
 -- nothing is read yet
-pub fed_none : (numbers : List ℕ) → Fed [] numbers (record { word = Between; taken = 0; more = false })
+pub starts : Starts (record { word = Between; taken = 0; more = false })
 unfolding words
-fed_none numbers = so_far between refl (omega arith) tt (λ rest. refl)
+starts numbers = so_far between refl (omega arith) tt (λ rest. refl)
 
 -- a word is not taken: it is no number, or there is no room for it
 refuses : (text numbers : List ℕ) (s : State) (c : ℕ) (w : Open) (word : Option ℕ) → separator c ≡ true → s.taken ≤ length numbers →
@@ -72,79 +72,70 @@ refuses text numbers s c w word h t p o k =
           ∙ append_assoc (as_words (taken_of numbers s)) (word ∷ []) (words_from between rest),
     ))
 
-module _ {text numbers : List ℕ} {s : State} where
+module _ {numbers : List ℕ} {s : State} where
   -- nothing changes any more
-  pub fed_kept : (piece : List ℕ) → s.more ≡ true → Fed text numbers s → Fed (text ++ piece) numbers s
-  fed_kept piece m (so_far w e t p k) = absurd (true≢false (sym m ∙ e))
-  fed_kept piece m (stopped word e t p k) =
+  pub feeds_kept : (piece : List ℕ) → s.more ≡ true → Feeds numbers piece s numbers s
+  feeds_kept piece m text (so_far w e t p k) = absurd (true≢false (sym m ∙ e))
+  feeds_kept piece m text (stopped word e t p k) =
       stopped word e t p (λ rest. ((k (piece ++ rest)).0, rw append_assoc (k (piece ++ rest)).1))
 
   -- the open word grows
-  pub fed_grown : (c : ℕ) (w' : Word) → separator c ≡ false → s.more ≡ false → Grows s.word c w' → Fed text numbers s →
-      Fed (text ++ (c ∷ [])) numbers (record { word = w'; taken = s.taken; more = false })
+  pub feeds_grown : (c : ℕ) {w' : Word} → separator c ≡ false → s.more ≡ false → Grows s.word c w' →
+      Feeds numbers (c ∷ []) s numbers (record { word = w'; taken = s.taken; more = s.more })
   unfolding Known
-  fed_grown c w' h m g (so_far w e t p k) = so_far (grown w c) refl t (g w p) (known_grown text (as_words (taken_of numbers s)) w c h k)
-  fed_grown c w' h m g (stopped word e t p k) = absurd (true≢false (sym e ∙ m))
+  feeds_grown c h m g text (so_far w e t p k) = so_far (grown w c) e t (g w p) (known_grown text (as_words (taken_of numbers s)) w c h k)
+  feeds_grown c h m g text (stopped word e t p k) = absurd (true≢false (sym e ∙ m))
 
   -- a separator where no word stands open
-  pub fed_between : (c : ℕ) → separator c ≡ true → s.word ≡ Between → s.more ≡ false → Fed text numbers s →
-      Fed (text ++ (c ∷ [])) numbers s
+  pub closes_between : s.word ≡ Between → Closes numbers s numbers s
   unfolding Known
-  fed_between c h b m (so_far w e t p k) =
+  closes_between b text c h m (so_far w e t p k) =
       let o = held_between w (subst (λ (v : Word). Shows v w) b p) in
       so_far between e t (subst (λ (v : Open). Shows s.word v) o p)
       (λ rest. known_closed text (as_words (taken_of numbers s)) w c h k rest
       ∙ ap (λ (v : Open). (as_words (taken_of numbers s) ++ closed v) ++ words_from between rest) o
       ∙ append_assoc (as_words (taken_of numbers s)) [] (words_from between rest))
-  fed_between c h b m (stopped word e t p k) = absurd (true≢false (sym e ∙ m))
+  closes_between b text c h m (stopped word e t p k) = absurd (true≢false (sym e ∙ m))
 
   -- a number is taken
-  pub fed_number : (c v : ℕ) → separator c ≡ true → s.word ≡ Digits v → v ≤ most_number → s.taken < length numbers → s.more ≡ false →
-      Fed text numbers s → Fed (text ++ (c ∷ [])) (set numbers s.taken v) (record { word = Between; taken = s.taken + 1; more = false })
+  pub closes_number : {v : ℕ} → s.word ≡ Digits v → v ≤ most_number → s.taken < length numbers →
+      Closes numbers s (set numbers s.taken v) (record { word = Between; taken = s.taken + 1; more = s.more })
   unfolding Known
-  fed_number c v h b l r m (so_far w e t p k) =
+  closes_number {v} b l r text c h m (so_far w e t p k) =
       let o = held_value v w l (subst (λ (u : Word). Shows u w) b p) in
-      so_far between refl (rw (length-set numbers s.taken v) (omega arith)) tt
+      so_far between e (rw (length-set numbers s.taken v) (omega arith)) tt
       (λ rest. known_closed text (as_words (taken_of numbers s)) w c h k rest
       ∙ ap (λ (u : List (Option ℕ)). (as_words (taken_of numbers s) ++ u) ++ words_from between rest) (ap closed o ∙ closed_value v l)
       ∙ ap (λ (u : List (Option ℕ)). u ++ words_from between rest) (sym (taken_more numbers s.taken v r)))
-  fed_number c v h b l r m (stopped word e t p k) = absurd (true≢false (sym e ∙ m))
+  closes_number b l r text c h m (stopped word e t p k) = absurd (true≢false (sym e ∙ m))
 
   -- one with another byte in it
-  pub fed_other : (c : ℕ) → separator c ≡ true → s.word ≡ Other → s.more ≡ false → Fed text numbers s →
-      Fed (text ++ (c ∷ [])) numbers (refusal s)
+  pub closes_other : s.word ≡ Other → Closes numbers s numbers (refusal s)
   unfolding Known
-  fed_other c h b m (so_far w e t p k) =
+  closes_other b text c h m (so_far w e t p k) =
       refuses text numbers s c w none h t (inl refl) (ap closed (held_other w (subst (λ (u : Word). Shows u w) b p))) k
-  fed_other c h b m (stopped word e t p k) = absurd (true≢false (sym e ∙ m))
+  closes_other b text c h m (stopped word e t p k) = absurd (true≢false (sym e ∙ m))
 
   -- one over the limit
-  pub fed_over : (c v : ℕ) → separator c ≡ true → s.word ≡ Digits v → most_number < v → s.more ≡ false → Fed text numbers s →
-      Fed (text ++ (c ∷ [])) numbers (refusal s)
+  pub closes_over : {v : ℕ} → s.word ≡ Digits v → most_number < v → Closes numbers s numbers (refusal s)
   unfolding Known
-  fed_over c v h b l m (so_far w e t p k) =
+  closes_over {v} b l text c h m (so_far w e t p k) =
       refuses text numbers s c w none h t (inl refl) (held_over v w l (subst (λ (u : Word). Shows u w) b p)) k
-  fed_over c v h b l m (stopped word e t p k) = absurd (true≢false (sym e ∙ m))
+  closes_over b l text c h m (stopped word e t p k) = absurd (true≢false (sym e ∙ m))
 
   -- one for which there is no room
-  pub fed_full : (c v : ℕ) → separator c ≡ true → s.word ≡ Digits v → length numbers ≤ s.taken → s.more ≡ false → Fed text numbers s →
-      Fed (text ++ (c ∷ [])) numbers (refusal s)
+  pub closes_full : {v : ℕ} → s.word ≡ Digits v → length numbers ≤ s.taken → Closes numbers s numbers (refusal s)
   unfolding Known
-  fed_full c v h b l m (so_far w e t p k) =
+  closes_full {v} b l text c h m (so_far w e t p k) =
       let o = held_one v w (subst (λ (u : Word). Shows u w) b p) in
       refuses text numbers s c w o.0 h t (inr (omega arith)) o.1 k
-  fed_full c v h b l m (stopped word e t p k) = absurd (true≢false (sym e ∙ m))
+  closes_full b l text c h m (stopped word e t p k) = absurd (true≢false (sym e ∙ m))
 
-module _ {numbers : List ℕ} {s : State} where
-  -- one more byte of the piece
-  pub feeds_more : (piece text : List ℕ) (i : ℕ) → i < length piece →
-      Fed ((text ++ take i piece) ++ (get_or piece i 0 ∷ [])) numbers s → Fed (text ++ take (i + 1) piece) numbers s
-  feeds_more piece text i h f =
-      subst (λ (t : List ℕ). Fed t numbers s)
-      (append_assoc text (take i piece) (get_or piece i 0 ∷ [])
-      ∙ ap (λ (l : List ℕ). text ++ l) (sym (take-suc piece i 0 h) ∙ ap (λ (n : ℕ). take n piece) (sym (add-one i))))
-      f
-
-  -- all of it
-  pub feeds_all : (piece text : List ℕ) (i : ℕ) → length piece ≤ i → Fed (text ++ take i piece) numbers s → Fed (text ++ piece) numbers s
-  feeds_all piece text i h f = subst (λ (l : List ℕ). Fed (text ++ l) numbers s) (take_all i piece h) f
+-- one more byte of the piece
+pub feeds_more : {numbers numbers₁ numbers₂ : List ℕ} {s s₁ s₂ : State} (piece : List ℕ) (i : ℕ) → i < length piece → Feeds numbers (take i piece) s numbers₁ s₁ →
+    Feeds numbers₁ (get_or piece i 0 ∷ []) s₁ numbers₂ s₂ → Feeds numbers (take (i + 1) piece) s numbers₂ s₂
+feeds_more {numbers₂ = numbers₂} {s₂ = s₂} piece i h before here text f =
+    subst (λ (t : List ℕ). Fed t numbers₂ s₂)
+    (append_assoc text (take i piece) (get_or piece i 0 ∷ [])
+    ∙ ap (λ (l : List ℕ). text ++ l) (sym (take-suc piece i 0 h) ∙ ap (λ (n : ℕ). take n piece) (sym (add-one i))))
+    (here (text ++ take i piece) (before text f))

@@ -1,17 +1,15 @@
 -- A word as it is held, and the word that stands open. Assumes nothing.
-use mathlib.Core.Path.{◌≡◌, refl, sym, ap, subst}
-use mathlib.Core.Bool.{Bool, true, false, cond}
+use mathlib.Core.Path.{◌≡◌, refl, ap}
+use mathlib.Core.Bool.{Bool, true, cond}
 use mathlib.Core.Option.{Option, none, some}
 use mathlib.Core.List.{[], ◌∷◌}
-use Prim.Native.Nat.{ℕ, suc, ◌+◌, ◌-◌, ◌*◌, ◌≤◌, ◌<◌, min}
+use Prim.Native.Nat.{ℕ, ◌≤◌, ◌<◌}
 use native.Mathlib.Omega.{arith}
 use lib.Dec.{ltb, leb}
 use borrow.Author.Tests.{lt-ltb, le-ltb, leb-true}
 use Rattle.laws.proofs.Tests.{both}
 use Rattle.reading.specs.Text.{Open, between, digits, other, most_number, digit, closed}
 use Rattle.reading.specs.Fed.{Shows}
-use Rattle.reading.specs.Parts.{Grows}
-use Rattle.reading.specs.declared.Word.{Word}
 use Rattle.reading.specs.declared.Word.TheVariants.{Between, Digits, Other}
 
 pub digit_bounds : (c : ℕ) → digit c ≡ true → (48 ≤ c) × (c ≤ 57)
@@ -52,32 +50,3 @@ held_one v other p = absurd p
 -- a number is the word that it closes as
 pub closed_value : (v : ℕ) → v ≤ most_number → closed (digits v) ≡ some v ∷ []
 closed_value v h = ap (λ (b : Bool). cond b none (some v) ∷ []) (le-ltb most_number v h)
-
--- no digit
-pub grows_other : (w : Word) (c : ℕ) → digit c ≡ false → Grows w c Other
-grows_other w c h between p = rw h tt
-grows_other w c h (digits x) p = rw h tt
-grows_other w c h other p = tt
-
--- a word with another byte in it stays one
-pub grows_stays : (w : Word) (c : ℕ) → w ≡ Other → Grows w c Other
-grows_stays w c e o p = rw (held_other o (rw e at p)) tt
-
--- the first digit
-first_digit : (c v : ℕ) → digit c ≡ true → v ≡ c - 48 → Grows Between c (Digits v)
-first_digit c v h e between p = rw h (let b = digit_bounds c h in omega arith)
-first_digit c v h e (digits x) p = absurd p
-first_digit c v h e other p = absurd p
-
-pub grows_first : (w : Word) (c v : ℕ) → digit c ≡ true → v ≡ c - 48 → w ≡ Between → Grows w c (Digits v)
-grows_first w c v h f e = subst (λ (u : Word). Grows u c (Digits v)) (sym e) (first_digit c v h f)
-
--- a further digit: what was cut off once stays over the limit
-further_digit : (c d v v' : ℕ) → digit c ≡ true → d ≡ c - 48 → v' ≡ min (10 * v + d) (suc most_number) → Grows (Digits v) c (Digits v')
-further_digit c d v v' h f e between p = absurd p
-further_digit c d v v' h f e (digits x) p = rw h (omega (arith, p))
-further_digit c d v v' h f e other p = absurd p
-
-pub grows_digit : (w : Word) (c d v v' : ℕ) → digit c ≡ true → d ≡ c - 48 → v' ≡ min (10 * v + d) (suc most_number) → w ≡ Digits v →
-    Grows w c (Digits v')
-grows_digit w c d v v' h f g e = subst (λ (u : Word). Grows u c (Digits v')) (sym e) (further_digit c d v v' h f g)

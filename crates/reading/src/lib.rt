@@ -7,9 +7,7 @@ ghost use Rattle.reading.specs.Text.{separator, digit, most_number};
 ghost use Rattle.reading.specs.Fed.{Starts, Feeds};
 ghost use Rattle.reading.specs.Parts.{Grows, Closes, refusal};
 
-// The largest number that is one, and what stands for every larger.
-const MOST: u64 = 4294967295;
-
+// What stands for every value over the limit, which is that of 32 bits.
 const OVER: u64 = 4294967296;
 
 // The word that stands open: none, digits alone with their value (cut off just past the limit), or one with another byte in it.
@@ -46,10 +44,8 @@ pub fn feed(s: State, piece: &[u8], numbers: &mut [u32]) -> State
     ensures numbers_len_unchanged { length numbers.new ≡ length numbers.old }
 {
     let mut held = s;
-    let mut i = 0;
-    while i < piece.len() {
-        held = next(held, piece[i], numbers);
-        i += 1;
+    for c in piece {
+        held = next(held, *c, numbers);
     }
     held
 }
@@ -65,37 +61,32 @@ fn next(s: State, c: u8, numbers: &mut [u32]) -> State
     if is_separator(c) {
         return closed(s, numbers);
     }
-    let w = s.word;
     State {
-        word: grown(w, c),
-        taken: s.taken,
-        more: false,
+        word: grown(s.word, c),
+        ..s
     }
 }
 
 fn is_separator(c: u8) -> bool
     ensures { result ≡ separator c }
 {
-    (c == 32) | (c == 9) | (c == 13) | (c == 10)
+    matches!(c, b' ' | b'\t' | b'\r' | b'\n')
 }
 
 pub fn is_digit(c: u8) -> bool
     ensures { result ≡ digit c }
 {
-    (48 <= c) & (c <= 57)
+    c.is_ascii_digit()
 }
 
 // The word with a further byte, which is no separator.
 fn grown(w: Word, c: u8) -> Word
     ensures { Grows w c result }
 {
-    if !is_digit(c) {
-        return Word::Other;
-    }
     match w {
-        Word::Between => Word::Digits(value(c)),
-        Word::Digits(v) => Word::Digits(further(v, value(c))),
-        Word::Other => Word::Other,
+        Word::Between if is_digit(c) => Word::Digits(value(c)),
+        Word::Digits(v) if is_digit(c) => Word::Digits(further(v, value(c))),
+        _ => Word::Other,
     }
 }
 
@@ -104,7 +95,7 @@ pub fn value(c: u8) -> u64
     requires { digit c ≡ true }
     ensures { (result ≡ c - 48) × (result < 10) }
 {
-    (c - 48) as u64
+    u64::from(c - b'0')
 }
 
 // The value with a further digit, cut off just past the limit so that any run of digits fits.
@@ -112,11 +103,7 @@ fn further(v: u64, d: u64) -> u64
     requires { d < 10 }
     ensures { result ≡ min (10 * v + d) (suc most_number) }
 {
-    if MOST < v {
-        return OVER;
-    }
-    let x = 10 * v + d;
-    if MOST < x { OVER } else { x }
+    (10 * v.min(OVER) + d).min(OVER)
 }
 
 // A separator ends the open word: a number is taken, any other word is refused.
@@ -124,8 +111,7 @@ fn closed(s: State, numbers: &mut [u32]) -> State
     ensures closes { Closes numbers.old s numbers.new result }
     ensures numbers_len_unchanged { length numbers.new ≡ length numbers.old }
 {
-    let w = s.word;
-    match w {
+    match s.word {
         Word::Between => s,
         Word::Digits(v) => number(s, v, numbers),
         Word::Other => refused(s),
@@ -138,18 +124,18 @@ fn number(s: State, v: u64, numbers: &mut [u32]) -> State
     ensures closes { Closes numbers.old s numbers.new result }
     ensures numbers_len_unchanged { length numbers.new ≡ length numbers.old }
 {
-    let at = s.taken;
-    if MOST < v {
+    let Ok(x) = u32::try_from(v) else {
         return refused(s);
-    }
+    };
+    let at = s.taken;
     if numbers.len() <= at {
         return refused(s);
     }
-    numbers[at] = v as u32;
+    numbers[at] = x;
     State {
         word: Word::Between,
         taken: at + 1,
-        more: false,
+        ..s
     }
 }
 
@@ -159,7 +145,7 @@ fn refused(s: State) -> State
 {
     State {
         word: Word::Between,
-        taken: s.taken,
         more: true,
+        ..s
     }
 }

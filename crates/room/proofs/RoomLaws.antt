@@ -4,8 +4,8 @@ use mathlib.Core.Option.{none, some}
 use mathlib.Core.List.{[], ◌∷◌}
 use Prim.Native.Nat.{ℕ, ◌*◌}
 use lib.ListN.{get_or}
-use Rattle.room.specs.declared.RoomAnswer.{RoomAnswer}
-use Rattle.room.specs.declared.RoomAnswer.TheVariants.{Given, Refused}
+use Rattle.std.specs.Prelude.{Result, Ok, Err}
+use Rattle.room.specs.declared.Room.{Room}
 use Rattle.tables.specs.Refusals.{Reply, refused, answered}
 use Rattle.tables.specs.Tables.{cells, scratch_need}
 use Rattle.tables.specs.declared.refusal.Refusal.{Refusal}
@@ -38,9 +38,9 @@ room_ranges C N Q e =
     )
 
 -- The promise settles the answer: two answers with one number and the same values are the same.
-pub room_unique : (a b : RoomAnswer) → room_reply a ≡ room_reply b → a ≡ b
-room_unique (Given g) (Given h) e =
-    ap (λ (x : Reply). Given (record { cells = get_or x.values 0 0; bytes = get_or x.values 1 0; scratch = get_or x.values 2 0 })) e
-room_unique (Given g) (Refused r) e = absurd (answered_or_refused r e)
-room_unique (Refused r) (Given g) e = absurd (answered_or_refused r (sym e))
-room_unique (Refused r) (Refused r') e = ap Refused (refused_unique e)
+pub room_unique : (a b : Result Room Refusal) → room_reply a ≡ room_reply b → a ≡ b
+room_unique (Ok g) (Ok h) e =
+    ap (λ (x : Reply). Ok (record { cells = get_or x.values 0 0; bytes = get_or x.values 1 0; scratch = get_or x.values 2 0 })) e
+room_unique (Ok g) (Err r) e = absurd (answered_or_refused r e)
+room_unique (Err r) (Ok g) e = absurd (answered_or_refused r (sym e))
+room_unique (Err r) (Err r') e = ap Err (refused_unique e)

@@ -1,10 +1,9 @@
 -- Document 01, "Room". Assumes nothing.
-use Rattle.std.specs.Prelude.{List, [], ◌∷◌, ℕ, ◌*◌}
+use Rattle.std.specs.Prelude.{List, [], ◌∷◌, ℕ, ◌*◌, Result, Ok, Err}
 use Rattle.std.proofs.Math.Option.{Option}
 use Rattle.tables.specs.declared.refusal.Refusal.{Refusal}
 use Rattle.tables.specs.declared.refusal.Refusal.TheVariants as refusal
-use Rattle.room.specs.declared.RoomAnswer.{RoomAnswer}
-use Rattle.room.specs.declared.RoomAnswer.TheVariants.{Given, Refused}
+use Rattle.room.specs.declared.Room.{Room}
 use Rattle.tables.specs.Refusals.{Reply, refused, answered}
 use Rattle.tables.specs.Tables.{cells, scratch_need}
 use Rattle.checks.specs.Checks.{when, first_refusal, or_answer}
@@ -20,6 +19,6 @@ unfoldable pub room_of : ℕ → ℕ → ℕ → Reply
 room_of C N Q = or_answer (first_refusal (room_checks C N Q)) (cells N Q ∷ 4 * C * cells N Q ∷ scratch_need N Q ∷ [])
 
 -- the number and the values of the call's answer
-abbrev pub room_reply : RoomAnswer → Reply
-room_reply (Given g) = answered (g.cells ∷ g.bytes ∷ g.scratch ∷ [])
-room_reply (Refused r) = refused r
+abbrev pub room_reply : Result Room Refusal → Reply
+room_reply (Ok g) = answered (g.cells ∷ g.bytes ∷ g.scratch ∷ [])
+room_reply (Err r) = refused r

@@ -6,12 +6,11 @@ ghost use Rattle.tables.specs.Law.{law_out};
 ghost use Rattle.checks.specs.Checks.{first_refusal};
 ghost use Rattle.rules.specs.Rules.{header_rules, neither_of_two, n_broken, d_broken};
 ghost use Rattle.rules.specs.Rules.{rate_broken, peak_broken, floor_broken};
-ghost use Rattle.checks.specs.Stages.{ended};
+ghost use Rattle.tables.specs.Refusals.{ended};
 
 use checks::range::outside;
-use checks::stage::{Stage, then, unless};
+use checks::stage::unless;
 use keys::cost::{Dist, Rate};
-use octets::cast::cell_to_number;
 use tables::common::common;
 use tables::law::no_law;
 use tables::limits::{MOST_CELL, MOST_SCANS, MOST_SETTINGS, MOST_TERM, MOST_TOTAL};
@@ -21,8 +20,9 @@ use tables::refusal::Refusal;
 pub struct Fields {
     pub scans: u64,
     pub settings: u64,
+    // A number and no enum: a file may hold any, and the rule of byte 11 judges it (`header_rules`).
     pub law: u64,
-    // 0 average, 1 minmax
+    // 0 average, 1 minmax; a number for the same reason, judged by the rule of byte 12
     pub kind: u64,
     pub budget: u64,
     pub n: u64,
@@ -31,13 +31,13 @@ pub struct Fields {
     pub distortion: Dist,
     pub peak: u64,
     pub floor: Dist,
-    // the mark of weights, 0 or 1 (`filing` makes it from the weights)
+    // the mark of weights, 0 or 1 (`filing` makes it from the weights); a number for the same reason, judged by the rule of byte 13
     pub weighted: u64,
 }
 
 // What is wrong in block 0 beside its fields: other letters, another length than N's, a run of zeros that is none. (The run from byte 13 on is
 // not QPL2's.)
-#[derive(Drop)]
+#[derive(Default, Drop)]
 pub struct Faults {
     pub letters: bool,
     pub length: bool,
@@ -50,36 +50,20 @@ pub struct Faults {
 fn neither_of_two(x: u64) -> bool
     ensures { result ≡ neither_of_two x }
 {
-    if x == 0 {
-        return false;
-    }
-    x != 1
+    x != 0 && x != 1
 }
 
-fn either_of(a: bool, b: bool) -> bool
-    ensures { result ≡ (a || b) }
-{
-    if a {
-        return true;
-    }
-    b
-}
-
+#[tactic(auto, unfolding(crate::specs::Rules::n_broken))]
 fn n_wrong(kind: u64, n: u64, d: u64) -> bool
     ensures { result ≡ n_broken kind n d }
 {
     if kind != 0 {
         return n != 0;
     }
-    if MOST_TERM < n {
-        return true;
-    }
-    if outside(MOST_TERM, d) {
-        return false;
-    }
-    common(n, d) != 1
+    MOST_TERM < n || (!outside(MOST_TERM, d) && common(n, d) != 1)
 }
 
+#[tactic(auto, unfolding(crate::specs::Rules::d_broken))]
 fn d_wrong(kind: u64, d: u64) -> bool
     ensures { result ≡ d_broken kind d }
 {
@@ -92,23 +76,14 @@ fn d_wrong(kind: u64, d: u64) -> bool
 fn rate_wrong(rate: u64, budget: u64) -> bool
     ensures { result ≡ rate_broken rate budget }
 {
-    if MOST_TOTAL < rate {
-        return true;
-    }
-    budget < rate
+    MOST_TOTAL < rate || budget < rate
 }
 
 // Where some weight is not 1 the distortion is a weighted sum, and a cell of a scan of weight 0 may be above it.
 fn peak_wrong(weighted: u64, peak: u64, distortion: u64) -> bool
     ensures { result ≡ peak_broken weighted peak distortion }
 {
-    if cell_to_number(MOST_CELL) < peak {
-        return true;
-    }
-    if weighted != 0 {
-        return false;
-    }
-    distortion < peak
+    u64::from(MOST_CELL) < peak || (weighted == 0 && distortion < peak)
 }
 
 fn floor_wrong(kind: u64, floor: u64, distortion: u64) -> bool
@@ -121,41 +96,27 @@ fn floor_wrong(kind: u64, floor: u64, distortion: u64) -> bool
 }
 
 // The first field in byte order that breaks its rule.
-pub fn rules(m: Faults, f: Fields) -> Stage
+pub fn rules(m: Faults, f: Fields) -> Result<(), Refusal>
     ensures { ended result ≡ first_refusal (header_rules (law_out f.law) m f) }
 {
-    let letters = unless(m.letters, Refusal::Header(4));
-    let scans = then(
-        letters,
-        either_of(outside(MOST_SCANS, f.scans), m.length),
-        Refusal::Header(8),
-    );
-    let settings = then(
-        scans,
-        outside(MOST_SETTINGS, f.settings),
-        Refusal::Header(10),
-    );
-    let law = then(settings, no_law(f.law), Refusal::Header(11));
-    let kind = then(law, neither_of_two(f.kind), Refusal::Header(12));
-    let weighted = then(
-        kind,
-        either_of(m.run_13, neither_of_two(f.weighted)),
-        Refusal::Header(13),
-    );
-    let run_14 = then(weighted, m.run_14, Refusal::Header(14));
-    let n = then(run_14, n_wrong(f.kind, f.n, f.d), Refusal::Header(24));
-    let d = then(n, d_wrong(f.kind, f.d), Refusal::Header(28));
-    let rate = then(d, rate_wrong(f.rate.0, f.budget), Refusal::Header(32));
-    let distortion = then(rate, MOST_TOTAL < f.distortion.0, Refusal::Header(36));
-    let peak = then(
-        distortion,
+    unless(m.letters, Refusal::Header(4))?;
+    unless(outside(MOST_SCANS, f.scans) || m.length, Refusal::Header(8))?;
+    unless(outside(MOST_SETTINGS, f.settings), Refusal::Header(10))?;
+    unless(no_law(f.law), Refusal::Header(11))?;
+    unless(neither_of_two(f.kind), Refusal::Header(12))?;
+    unless(m.run_13 || neither_of_two(f.weighted), Refusal::Header(13))?;
+    unless(m.run_14, Refusal::Header(14))?;
+    unless(n_wrong(f.kind, f.n, f.d), Refusal::Header(24))?;
+    unless(d_wrong(f.kind, f.d), Refusal::Header(28))?;
+    unless(rate_wrong(f.rate.0, f.budget), Refusal::Header(32))?;
+    unless(MOST_TOTAL < f.distortion.0, Refusal::Header(36))?;
+    unless(
         peak_wrong(f.weighted, f.peak, f.distortion.0),
         Refusal::Header(40),
-    );
-    let floor = then(
-        peak,
+    )?;
+    unless(
         floor_wrong(f.kind, f.floor.0, f.distortion.0),
         Refusal::Header(44),
-    );
-    then(floor, m.run_48, Refusal::Header(48))
+    )?;
+    unless(m.run_48, Refusal::Header(48))
 }

@@ -48,15 +48,12 @@ module _ {P : Problem} where
     pub bracket_rises : lo.rate.0 < hi.rate.0
     bracket_rises = omega (arith, b.lo_totals.rate, b.hi_totals.rate, b.fits, b.over)
 
-    -- the slope is within the multiplier limits
-    pub slope_small : ((t : List ℕ) → P.allowed t → (P.distortion t ≤ most_total) × (P.rate t ≤ most_total)) → {n d : ℕ} → SlopeOf lo hi n d →
-        (n ≤ most_term) × ((1 ≤ d) × (d ≤ most_term))
-    slope_small small s =
+    -- the totals of both are small, and so the slope is within the multiplier limits
+    pub bracket_small : ((t : List ℕ) → P.allowed t → (P.distortion t ≤ most_total) × (P.rate t ≤ most_total)) → (lo.distortion.0 ≤ most_total) × (hi.rate.0 ≤ most_total)
+    bracket_small small =
         let l = small b.lo_plan lo_allowed in
-        let h = small b.hi_plan b.hi_origin.one in (
-          omega (arith, s.fall, b.lo_totals.distortion, l.0),
-          (omega (arith, s.rise, bracket_rises), omega (arith, s.rise, b.hi_totals.rate, h.1)),
-        )
+        let h = small b.hi_plan b.hi_origin.one in
+        (omega (arith, b.lo_totals.distortion, l.0), omega (arith, b.hi_totals.rate, h.1))
 
     slope_at : {n d : ℕ} {t : List ℕ} → SlopeOf lo hi n d → Multiplier P n d t → Slope P b.lo_plan b.hi_plan n d t
     slope_at s m = record {

@@ -1,9 +1,11 @@
 // The slopes between the last plan that fits and the last that does not, until one ties.
 ghost use Rattle.std.specs.Prelude.{◌≡◌, ◌+◌, ◌-◌, ◌*◌, ◌≤◌, ◌<◌, ◌^◌, eqb, length};
-ghost use Rattle.tables.specs.Tables.{table, planning};
-ghost use Rattle.checks.specs.Fit.{Fit};
+ghost use Rattle.tables.specs.Limits.{most_total};
+ghost use Rattle.tables.specs.Tables.{scratch_need};
+ghost use Rattle.checks.specs.Given.{planning_in};
 ghost use Rattle.search.specs.Search.{Bracketed, SlopeOf, SlopeEnd, Narrowed};
 
+use checks::checked::Checked;
 use keys::cost::{Ratio, cost};
 use seek::passes::multiplier_pass;
 use walk::{Totals, total_up};
@@ -17,7 +19,8 @@ pub struct Bracket {
 
 // How much distortion falls from lo to hi for how much rate.
 fn slope_of(at: Bracket) -> Ratio
-    requires { (at.hi.distortion.0 ≤ at.lo.distortion.0) × (at.lo.rate.0 < at.hi.rate.0) }
+    requires order { (at.hi.distortion.0 ≤ at.lo.distortion.0) × (at.lo.rate.0 < at.hi.rate.0) }
+    requires small { (at.lo.distortion.0 ≤ most_total) × (at.hi.rate.0 ≤ most_total) }
     ensures { SlopeOf at.lo at.hi result.n result.d }
 {
     Ratio {
@@ -27,59 +30,36 @@ fn slope_of(at: Bracket) -> Ratio
 }
 
 // Do the two cost the same at this multiplier?
-fn ties(a: Totals, b: Totals, n: u64, d: u64) -> bool
-    requires { (d * a.distortion.0 + n * a.rate.0 < 2 ^ 64) × (d * b.distortion.0 + n * b.rate.0 < 2 ^ 64) }
-    ensures { result ≡ eqb (d * a.distortion.0 + n * a.rate.0) (d * b.distortion.0 + n * b.rate.0) }
+fn ties(a: Totals, b: Totals, at: Ratio) -> bool
+    requires { (at.d * a.distortion.0 + at.n * a.rate.0 < 2 ^ 64) × (at.d * b.distortion.0 + at.n * b.rate.0 < 2 ^ 64) }
+    ensures { result ≡ eqb (at.d * a.distortion.0 + at.n * a.rate.0) (at.d * b.distortion.0 + at.n * b.rate.0) }
 {
-    let x = cost(a.rate, a.distortion, n, d);
-    let y = cost(b.rate, b.distortion, n, d);
-    x.0 == y.0
+    cost(a.rate, a.distortion, at.n, at.d) == cost(b.rate, b.distortion, at.n, at.d)
 }
 
 // A plan replaces the one on its side of the budget.
 fn narrowed(at: Bracket, plan: Totals, budget: u64) -> Bracket
     ensures { Narrowed at plan budget result }
 {
-    let lo = at.lo;
-    let hi = at.hi;
     if plan.rate.0 <= budget {
-        return Bracket { lo: plan, hi };
+        Bracket { lo: plan, ..at }
+    } else {
+        Bracket { hi: plan, ..at }
     }
-    Bracket { lo, hi: plan }
 }
 
 // The slopes, until one ties. The last plan's choices are then in scratch.
-pub fn slopes(
-    scans: usize,
-    settings: usize,
-    law: u64,
-    budget: u64,
-    start: Bracket,
-    rates: &[u32],
-    distortions: &[u32],
-    weights: &[u8],
-    scratch: &mut [u8],
-) -> Ratio
-    requires fit { Fit scans settings rates.now distortions.now weights.now (length scratch.old) }
-    requires bracketed { Bracketed (planning (table scans settings law rates.now distortions.now weights.now)) budget start.lo start.hi }
-    ensures { SlopeEnd (planning (table scans settings law rates.now distortions.now weights.now)) scans settings budget result.n result.d scratch.old scratch.new }
+pub fn slopes(t: &Checked, budget: u64, start: Bracket, scratch: &mut [u8]) -> Ratio
+    requires room { scratch_need t.now.scans t.now.settings ≤ length scratch.old }
+    requires bracketed { Bracketed (planning_in t.now) budget start.lo start.hi }
+    ensures { SlopeEnd (planning_in t.now) t.now.scans t.now.settings budget result.n result.d scratch.old scratch.new }
 {
     let mut at = start;
     loop {
         let s = slope_of(at);
-        multiplier_pass(
-            scans,
-            settings,
-            law,
-            s.n,
-            s.d,
-            rates,
-            distortions,
-            weights,
-            scratch,
-        );
-        let plan = total_up(scans, settings, law, rates, distortions, weights, scratch);
-        if ties(plan, at.lo, s.n, s.d) {
+        multiplier_pass(t, s, scratch);
+        let plan = total_up(t, scratch);
+        if ties(plan, at.lo, s) {
             return s;
         }
         at = narrowed(at, plan, budget);

@@ -71,8 +71,8 @@ module _ {N Q : ℕ} (law : Law) {rates distortions weights : List ℕ} {room : 
       PassOf (pass_problem rule.ceiling T) N Q rule before after found → ThriftyPass P N Q rule.ceiling before after found
   thrifty_passed {rule} {before} {after} ea eb p = record {
     none = λ e t w. p.none e t (under_pass rule.ceiling t w);
-    some = λ e. (ceiling_by_key P most_total sums_small rule.ceiling 1 rate_first rates_first (chosen Q N after)).0
-        (rw (ea, eb) at (least_same (pass_under_peak rule.ceiling) (under_pass rule.ceiling) (p.some e)));
+    some = λ e. (ceiling_by_key P most_total sums_small rule.ceiling rule.a rule.b (rw (ea, eb) rates_first) (chosen Q N after)).0
+        (least_same (pass_under_peak rule.ceiling) (under_pass rule.ceiling) (p.some e));
     framed = record { long = p.long; rest = p.rest };
   }
 
@@ -124,6 +124,10 @@ wiped_same {k} {before} {after} f = ap (λ (l : List ℕ). replicate k 0 ++ l) (
 pub fit_framed : {N Q k : ℕ} {rates distortions weights before after : List ℕ} → Fit N Q rates distortions weights (length before) → Framed k before after →
     Fit N Q rates distortions weights (length after)
 fit_framed fit f = rw f.long fit
+
+-- .. and so has the room that it had
+pub room_framed : {k : ℕ} {before after : List ℕ} → k ≤ length before → Framed k before after → k ≤ length after
+room_framed h f = rw f.long h
 
 -- so it can be wiped
 pub wipe_fits : {N Q : ℕ} {rates distortions weights : List ℕ} {room : ℕ} → Fit N Q rates distortions weights room →

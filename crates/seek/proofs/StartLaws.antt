@@ -1,5 +1,6 @@
 -- How a call with a budget starts: what each answer tells. Assumes nothing.
-use mathlib.Core.Path.{◌≡◌, sym, ap, ◌∙◌}
+use mathlib.Core.Path.{◌≡◌, refl, sym, ap, ◌∙◌}
+use Rattle.std.specs.Prelude.{Ok}
 use mathlib.Core.List.{List}
 use Prim.Native.Nat.{ℕ}
 use lib.ListN.{get_or}
@@ -10,8 +11,6 @@ use Rattle.tables.specs.Tables.{scratch_need}
 use Rattle.tables.proofs.RefusalLaws.{answered_or_refused}
 use Rattle.walk.specs.declared.Totals.{Totals}
 use Rattle.walk.specs.Walked.{total_values}
-use Rattle.seek.specs.declared.start.Started.{Started}
-use Rattle.seek.specs.declared.start.Started.TheVariants as started
 use Rattle.seek.specs.Sought.{Framed, ThriftyTotals}
 use Rattle.seek.specs.Started.{StartedAs, start_reply, fits, none_allowed, none_fits}
 
@@ -34,6 +33,6 @@ plan_start (fits h f) e = (same_totals h (ap (λ (x : Reply). x.values) e), f)
 plan_start (none_allowed n w) e = absurd (answered_or_refused refusal.NoSequence (sym e))
 plan_start (none_fits n w) e = absurd (answered_or_refused refusal.NoneWithin (sym e))
 
-pub started_plan : {P : Problem} {N Q B : ℕ} {before after : List ℕ} {st : Started} {t : Totals} → StartedAs P N Q B before after (start_reply st) → st ≡ started.Plan t →
+pub started_plan : {P : Problem} {N Q B : ℕ} {before after : List ℕ} {t : Totals} → StartedAs P N Q B before after (start_reply (Ok t)) →
     ThriftyTotals P B t × Framed (scratch_need N Q) before after
-started_plan h e = plan_start h (ap start_reply e)
+started_plan h = plan_start h refl

@@ -1,50 +1,27 @@
 // How a call with a budget starts.
-ghost use Rattle.std.specs.Prelude.{◌<◌, length};
-ghost use Rattle.tables.specs.Tables.{table, planning};
-ghost use Rattle.checks.specs.Fit.{Fit};
+ghost use Rattle.std.specs.Prelude.{◌≤◌, length};
+ghost use Rattle.tables.specs.Tables.{scratch_need};
+ghost use Rattle.checks.specs.Given.{planning_in};
 ghost use Rattle.seek.specs.Started.{StartedAs, start_reply};
 
 use crate::passes::{NO_CEILING, thrifty_pass};
+use checks::checked::Checked;
 use tables::refusal::Refusal;
 use walk::{Totals, total_up, wipe};
 
 // How a call with a budget starts: the totals of the least-rate plan, which fits, or a refusal with scratch wiped.
-#[derive(Drop)]
-pub enum Started {
-    Plan(Totals),
-    Refused(Refusal),
-}
-
-pub fn start(
-    scans: usize,
-    settings: usize,
-    law: u64,
-    budget: u64,
-    rates: &[u32],
-    distortions: &[u32],
-    weights: &[u8],
-    scratch: &mut [u8],
-) -> Started
-    requires { Fit scans settings rates.now distortions.now weights.now (length scratch.old) }
-    ensures { StartedAs (planning (table scans settings law rates.now distortions.now weights.now)) scans settings budget scratch.old scratch.new (start_reply result) }
+pub fn start(t: &Checked, budget: u64, scratch: &mut [u8]) -> Result<Totals, Refusal>
+    requires { scratch_need t.now.scans t.now.settings ≤ length scratch.old }
+    ensures { StartedAs (planning_in t.now) t.now.scans t.now.settings budget scratch.old scratch.new (start_reply result) }
 {
-    if !thrifty_pass(
-        scans,
-        settings,
-        law,
-        NO_CEILING,
-        rates,
-        distortions,
-        weights,
-        scratch,
-    ) {
-        wipe(scratch, scans, settings);
-        return Started::Refused(Refusal::NoSequence);
+    if !thrifty_pass(t, NO_CEILING, scratch) {
+        wipe(scratch, t.scans, t.settings);
+        return Err(Refusal::NoSequence);
     }
-    let totals = total_up(scans, settings, law, rates, distortions, weights, scratch);
+    let totals = total_up(t, scratch);
     if budget < totals.rate.0 {
-        wipe(scratch, scans, settings);
-        return Started::Refused(Refusal::NoneWithin);
+        wipe(scratch, t.scans, t.settings);
+        return Err(Refusal::NoneWithin);
     }
-    Started::Plan(totals)
+    Ok(totals)
 }

@@ -1,7 +1,7 @@
 -- The step laws, one home for all that is known of their numbers: what each allows (`law_of`), the same as a test (`allows`) and which
 -- numbers are laws (`law_out`). A further law is a line of each and of the three functions of src/law.rt, a lemma for its run, and its case
--- where proofs/LawLaws goes by number. No proof but those and the P list's opens the three (`unfolding`), so that none else tells one law
--- from another. Assumes nothing.
+-- where proofs/LawLaws and the proofs of those functions go by number. No proof but those and the P list's opens the three (`unfolding`), so
+-- that none else tells one law from another. Assumes nothing.
 use Rattle.std.specs.Prelude.{◌≡◌, ◌↔◌, Bool, true, false, not, ◌||◌, ◌&&◌, ℕ, zero, suc, ◌+◌, ◌≤◌, ◌<◌, eqb, leb}
 
 -- "a law being only a statement of which pairs it allows": q may follow p

@@ -1,5 +1,6 @@
 -- Document 01, "Numbers a caller can get back", and what document 02 adds to them. Assumes nothing.
-use Rattle.std.specs.Prelude.{List, [], ◌∷◌, ℕ}
+use Rattle.std.specs.Prelude.{List, [], ◌∷◌, ℕ, Result, Ok, Err}
+use Rattle.std.proofs.Math.Option.{Option, none, some}
 use Rattle.tables.specs.declared.refusal.Refusal.{Refusal}
 use Rattle.tables.specs.declared.refusal.Refusal.TheVariants.{Scans, Settings, StepLaw, Multiplier, Lengths, Buffer, Cell, NoSequence, NoneWithin, Channels, FileLength, Block, Header, Entry, Malformed, OutOfRange, Twice, Budget}
 
@@ -55,3 +56,8 @@ refused r = record { number = number_of r; values = carried_by r ∷ [] }
 
 abbrev pub answered : List ℕ → Reply
 answered v = record { number = 0; values = v }
+
+-- the refusal that a call, a check or a stage of them ended with, or none
+abbrev pub ended : {A : Type 0} → Result A Refusal → Option Refusal
+ended (Ok x) = none
+ended (Err r) = some r

@@ -1,4 +1,4 @@
-// The common divisor, by the remainder rule of Euclid.
+// The common divisor, by the remainder rule of Euclid. That it calls itself on the remainder is the form that document 01 names.
 ghost use Rattle.std.specs.Prelude.{◌≡◌};
 ghost use Rattle.criteria.specs.Fraction.{gcd};
 

@@ -2,7 +2,7 @@
 ghost use Rattle.std.specs.Prelude.{◌≡◌};
 ghost use Rattle.tables.specs.Refusals.{number_of, carried_by};
 
-#[derive(Clone, Copy)]
+#[derive(Clone, Copy, Debug, PartialEq, Eq)]
 pub enum Refusal {
     // 1: N is 0 or over 1,024
     Scans,
@@ -73,23 +73,23 @@ pub fn carried(r: Refusal) -> u64
     ensures { result ≡ carried_by r }
 {
     match r {
-        Refusal::Scans => 0,
-        Refusal::Settings => 0,
-        Refusal::StepLaw => 0,
-        Refusal::Multiplier => 0,
-        Refusal::Lengths => 0,
-        Refusal::Buffer => 0,
-        Refusal::Cell(k) => k,
-        Refusal::NoSequence => 0,
-        Refusal::NoneWithin => 0,
-        Refusal::Channels => 0,
-        Refusal::FileLength => 0,
-        Refusal::Block(b) => b,
-        Refusal::Header(byte) => byte,
-        Refusal::Entry(e) => e,
-        Refusal::Malformed(line) => line,
-        Refusal::OutOfRange(line) => line,
-        Refusal::Twice(line) => line,
-        Refusal::Budget => 0,
+        Refusal::Cell(k)
+        | Refusal::Block(k)
+        | Refusal::Header(k)
+        | Refusal::Entry(k)
+        | Refusal::Malformed(k)
+        | Refusal::OutOfRange(k)
+        | Refusal::Twice(k) => k,
+        Refusal::Scans
+        | Refusal::Settings
+        | Refusal::StepLaw
+        | Refusal::Multiplier
+        | Refusal::Lengths
+        | Refusal::Buffer
+        | Refusal::NoSequence
+        | Refusal::NoneWithin
+        | Refusal::Channels
+        | Refusal::FileLength
+        | Refusal::Budget => 0,
     }
 }

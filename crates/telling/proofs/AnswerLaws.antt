@@ -12,14 +12,10 @@ use Rattle.tables.specs.declared.refusal.Refusal.TheVariants as refusal
 use Rattle.tables.specs.Refusals.{Reply, refused, answered, number_of, carried_by}
 use Rattle.tables.proofs.RefusalLaws.{never_zero}
 use Rattle.octets.specs.Bytes.{le}
-use Rattle.checks.specs.declared.stage.Stage.{Stage}
-use Rattle.checks.specs.Checks.{or_answer}
-use Rattle.checks.specs.Stages.{ended}
 use Rattle.laws.proofs.Stores.{sets_append}
 use Rattle.octets.proofs.NumberLaws.{length_le}
 use Rattle.telling.specs.Told.{eights, word_of, answer_after, Told}
-use Rattle.telling.specs.declared.Answer.{Answer}
-use Rattle.telling.specs.Parts.{Tellable, answer_reply}
+use Rattle.telling.specs.Parts.{Tellable}
 
 length_eights : (v : List ℕ) → length (eights v) ≡ 8 * length v
 length_eights [] = refl
@@ -66,10 +62,6 @@ number_small refusal.Budget = omega arith
 pub word_refused : (r : Refusal) → word_of (refused r) ≡ number_of r + 4294967296 * carried_by r
 unfolding word_of
 word_refused r = rw (ne_eqb (number_of r) 0 (never_zero r)) refl
-
--- what an answer says, where it is known how it ended
-pub ended_as : (a : Answer) {s : Stage} → a.ended ≡ s → answer_reply a ≡ or_answer (ended s) (take a.count a.values)
-ended_as a e = ap (λ (s : Stage). or_answer (ended s) (take a.count a.values)) e
 
 -- an answer's values fit, and what a refusal carries is small
 pub tellable_answer : {reply : Reply} {n : ℕ} (v : List ℕ) → reply ≡ answered v → Tellable reply n → 8 * length v ≤ n

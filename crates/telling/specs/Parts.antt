@@ -1,9 +1,7 @@
 -- What the functions inside the surface ask and promise. Assumes nothing.
-use Rattle.std.specs.Prelude.{◌≡◌, ℕ, ◌*◌, ◌≤◌, ◌<◌, ◌^◌, length, get_or, take}
-use Rattle.tables.specs.Refusals.{Reply}
-use Rattle.checks.specs.Checks.{or_answer}
-use Rattle.checks.specs.Stages.{ended}
-use Rattle.telling.specs.declared.Answer.{Answer}
+use Rattle.std.specs.Prelude.{◌≡◌, List, ℕ, ◌*◌, ◌≤◌, ◌<◌, ◌^◌, length, get_or, Result, Ok, Err}
+use Rattle.tables.specs.declared.refusal.Refusal.{Refusal}
+use Rattle.tables.specs.Refusals.{Reply, refused, answered}
 
 -- as many values as the longest answer has, that of the reader
 abbrev pub most_values : ℕ
@@ -15,5 +13,6 @@ pub record Tellable (reply : Reply) (room : ℕ) : Type 0 where
   pub small : (reply.number ≡ 0 → ⊥) → get_or reply.values 0 0 < 2 ^ 32
 
 -- the number and the values that an answer says
-abbrev pub answer_reply : Answer → Reply
-answer_reply a = or_answer (ended a.ended) (take a.count a.values)
+abbrev pub answer_reply : Result (List ℕ) Refusal → Reply
+answer_reply (Ok v) = answered v
+answer_reply (Err r) = refused r

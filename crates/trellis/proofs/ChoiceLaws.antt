@@ -5,7 +5,7 @@ use Prim.Native.Nat.{ℕ, suc, ◌+◌, ◌*◌, ◌≤◌, ◌<◌}
 use native.Mathlib.Nat.{mul-le-mul_right}
 use native.Mathlib.Decide.{dec_lt}
 use native.Mathlib.Omega.{arith}
-use lib.ListN.{length, get_or, set, length-set}
+use lib.ListN.{length, set, length-set}
 use lib.Seq.{get_or-set_same, get_or-set_other}
 use Rattle.laws.proofs.Lists.{part_inside}
 use Rattle.tables.specs.Tables.{scratch_need}
@@ -40,11 +40,6 @@ stored_choice Q i p v scratch h g = record {
   beyond = λ N k l m. get_or-set_other scratch (i * Q + p) k v 0 (beyond_place Q i p N k h l m);
   long = length-set scratch (i * Q + p) v;
 }
-
--- what is read at its place is the choice
-pub read_choice : (Q i p : ℕ) (scratch : List ℕ) {at r : ℕ} → at ≡ i * Q + p → r ≡ get_or scratch at 0 → r ≡ choice Q scratch i p
-unfolding choice
-read_choice Q i p scratch e f = rw (← e) f
 
 -- the scratch of a call holds the choices of each of its scans
 pub need_more : (N Q i : ℕ) → i < N → scratch_need (suc i) Q ≤ scratch_need N Q

@@ -22,7 +22,7 @@ use Rattle.keys.specs.OneKey.{Least}
 use Rattle.least.specs.declared.Rule.{Rule}
 use Rattle.least.specs.Row.{no_way, price_of, candidate, Ready, BestOf, Light}
 use Rattle.least.proofs.PriceLaws.{cell_fits, open_price, price_open}
-use Rattle.trellis.specs.Square.{Sixteen, closed_rate, counted_of, CellsFit}
+use Rattle.trellis.specs.Square.{Sixteen, closed_rate, counted_of, closed_cell, counted_cell, CellsFit, CellsOf}
 use Rattle.trellis.specs.Stepped.{BestAmong, Stepped}
 use Rattle.trellis.specs.Choices.{choice, ChoiceStored, walk, chosen}
 use Rattle.trellis.specs.Made.{SquareOf, FirstRow, rate_made, distortion_made}
@@ -45,27 +45,51 @@ pub later_follows : (law : Law) (i p q : ℕ) → 0 < i → Follows law i p q �
 later_follows law zero p q h l = absurd (omega arith)
 later_follows law (suc i) p q h l = l
 
-module _ (t : Table) {room : ℕ} (fit : Fit t.N t.Q t.rates t.distortions t.weights room) where
-  -- the cells of a scan fit: they are legal with its weight
-  cells_fit : (i weight from n : ℕ) → i < t.N → weight ≡ weight_at t i → from ≡ scan_start t.Q i → from + n ≡ scan_start t.Q (suc i) →
-      CellsFit weight from n t.rates t.distortions
-  cells_fit i weight from n h w e g =
-      let s = scan_inside t.N t.Q i h in
-      record {
-        in_rates = omega (arith, s.1, fit.rates_long);
-        in_distortions = omega (arith, s.1, fit.distortions_long);
-        legal = λ q l. rw w (rw (scan_in_run t.Q i (from + q) (omega arith) (omega arith)) at (fit.legal (from + q) (omega (arith, s.1, fit.rates_long))).1);
-      }
+-- a later scan starts after scan 0's row and the squares between
+pub later_start : (Q i : ℕ) → 0 < i → scan_start Q i ≡ Q + (i - 1) * (Q * Q)
+later_start Q zero h = absurd (omega arith)
+later_start Q (suc i) h = let e : suc i - 1 ≡ i = omega arith in rw e refl
 
-  pub square_fits : (i weight : ℕ) → 0 < i → i < t.N → weight ≡ weight_at t i →
-      CellsFit weight (t.Q + (i - 1) * (t.Q * t.Q)) (t.Q * t.Q) t.rates t.distortions
-  square_fits zero weight h g w = absurd (omega arith)
-  square_fits (suc i) weight h g w =
-      let e : suc i - 1 ≡ i = omega arith in
-      rw e (cells_fit (suc i) weight (t.Q + i * (t.Q * t.Q)) (t.Q * t.Q) g w refl (omega arith))
+square_ends : (Q i : ℕ) → 0 < i → scan_start Q i + Q * Q ≡ scan_start Q (suc i)
+square_ends Q zero h = absurd (omega arith)
+square_ends Q (suc i) h = omega arith
 
-  pub first_fits : (weight : ℕ) → weight ≡ weight_at t 0 → CellsFit weight 0 t.Q t.rates t.distortions
-  first_fits weight w = cells_fit 0 weight 0 t.Q fit.some_scans w refl (omega arith)
+-- the cells of a scan
+module _ {t : Table} {i weight from : ℕ} {rates distortions : List ℕ} (of : CellsOf t i weight from rates distortions) where
+  -- they fit: they are legal with its weight
+  module _ {room : ℕ} (fit : Fit t.N t.Q t.rates t.distortions t.weights room) where
+    cells_fit : (n : ℕ) → i < t.N → scan_start t.Q i + n ≡ scan_start t.Q (suc i) → CellsFit weight from n rates distortions
+    cells_fit n h g =
+        let s = scan_inside t.N t.Q i h in
+        rw (of.weighs, of.starts, of.rates_are, of.distortions_are) (record {
+          in_rates = omega (arith, s.1, fit.rates_long);
+          in_distortions = omega (arith, s.1, fit.distortions_long);
+          legal = λ q l. rw (scan_in_run t.Q i (scan_start t.Q i + q) (omega arith) (omega arith)) at (fit.legal (scan_start t.Q i + q) (omega (arith, s.1, fit.rates_long))).1;
+        })
+
+    pub square_fits : 0 < i → i < t.N → CellsFit weight from (t.Q * t.Q) rates distortions
+    square_fits h g = cells_fit (t.Q * t.Q) g (square_ends t.Q i h)
+
+    pub first_fits : i ≡ 0 → CellsFit weight from t.Q rates distortions
+    first_fits e = cells_fit t.Q (omega (arith, fit.some_scans)) (rw e (omega arith))
+
+  -- copied, they are what a pass makes of them
+  module _ (rule : Rule) where
+    pub square_rates : (square : List (List ℕ)) → 0 < i → ((p : ℕ) → p < t.Q → (q : ℕ) → q < t.Q → get_or (get_or square p []) q 0
+        ≡ closed_cell rule.ceiling rates distortions (from + p * t.Q + q)) → SquareOf t.Q i (rate_made t rule) square
+    square_rates square h w = rw (of.rates_are, of.distortions_are, of.starts, later_start t.Q i h) at w
+
+    pub square_counts : (square : List (List ℕ)) → 0 < i → ((p : ℕ) → p < t.Q → (q : ℕ) → q < t.Q → get_or (get_or square p []) q 0
+        ≡ counted_cell weight rule.ceiling rates distortions (from + p * t.Q + q)) → SquareOf t.Q i (distortion_made t rule i) square
+    square_counts square h w = rw (of.weighs, of.rates_are, of.distortions_are, of.starts, later_start t.Q i h) at w
+
+    pub row_rates : (row : List ℕ) → i ≡ 0 → ((q : ℕ) → q < t.Q → get_or row q 0 ≡ closed_cell rule.ceiling rates distortions (from + q)) →
+        FirstRow t.Q (rate_made t rule) row
+    row_rates row e w = rw (of.rates_are, of.distortions_are, of.starts, e) at w
+
+    pub row_counts : (row : List ℕ) → i ≡ 0 → ((q : ℕ) → q < t.Q → get_or row q 0 ≡ counted_cell weight rule.ceiling rates distortions (from + q)) →
+        FirstRow t.Q (distortion_made t rule 0) row
+    row_counts row e w = rw (of.weighs, of.rates_are, of.distortions_are, of.starts, e) at w
 
 module _ (t : Table) (rule : Rule) where
   -- the steps that a pass looks at, and what each costs it

@@ -1,5 +1,5 @@
 -- One scan, a setting before it at a time: the least of a run is the least of what the law allows. Assumes nothing.
-use mathlib.Core.Path.{◌≡◌, refl, ◌∙◌}
+use mathlib.Core.Path.{◌≡◌, ◌∙◌}
 use mathlib.Core.List.{List}
 use Prim.Native.Nat.{ℕ, ◌+◌, ◌≤◌, ◌<◌}
 use native.Mathlib.Decide.{ℕ_discrete}
@@ -45,14 +45,6 @@ pub record StepSoFar (law : Law) (x : ℕ → ℕ → ℕ) (Q i p : ℕ) (keys s
   pub long : length scratch ≡ length scratch₀
   pub others : (j r : ℕ) → r < Q → (j ≡ i → ⊥) → choice Q scratch j r ≡ choice Q scratch₀ j r
   pub beyond : (N k : ℕ) → i < N → scratch_need N Q ≤ k → get_or scratch k 0 ≡ get_or scratch₀ k 0
-
-pub step_none : (law : Law) (x : ℕ → ℕ → ℕ) (Q i : ℕ) (keys scratch : List ℕ) → StepSoFar law x Q i 0 keys scratch scratch
-step_none law x Q i keys scratch = record {
-  best = λ r h. absurd (omega arith);
-  long = refl;
-  others = λ j r l ne. refl;
-  beyond = λ N k l m. refl;
-}
 
 -- one more
 pub step_more : {law : Law} {x : ℕ → ℕ → ℕ} {Q i p v f : ℕ} {keys scratch₀ scratch scratch' : List ℕ} → p < length keys → p < Q →

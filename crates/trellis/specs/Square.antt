@@ -2,6 +2,7 @@
 use Rattle.std.specs.Prelude.{◌≡◌, Bool, ◌||◌, cond, List, [], ℕ, ◌+◌, ◌*◌, ◌≤◌, ◌<◌, eqb, ltb, length, get_or}
 use Rattle.tables.specs.Limits.{forbidden}
 use Rattle.tables.specs.Legal.{LegalBeside}
+use Rattle.tables.specs.Tables.{Table, scan_start, weight_at}
 
 -- 16 rows of 16
 abbrev pub Sixteen : List (List ℕ) → Type 0
@@ -31,3 +32,10 @@ pub record CellsFit (weight from n : ℕ) (rates distortions : List ℕ) : Type 
   pub in_rates : from + n ≤ length rates
   pub in_distortions : from + n ≤ length distortions
   pub legal : (q : ℕ) → q < n → LegalBeside weight (get_or rates (from + q) 0) (get_or distortions (from + q) 0)
+
+-- these are the cells of scan i of a table
+pub record CellsOf (t : Table) (i weight from : ℕ) (rates distortions : List ℕ) : Type 0 where
+  pub rates_are : rates ≡ t.rates
+  pub distortions_are : distortions ≡ t.distortions
+  pub weighs : weight ≡ weight_at t i
+  pub starts : from ≡ scan_start t.Q i

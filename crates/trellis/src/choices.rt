@@ -4,8 +4,7 @@ ghost use Rattle.tables.specs.Limits.{most_scans, most_settings};
 ghost use Rattle.tables.specs.Tables.{scratch_need};
 ghost use Rattle.trellis.specs.Choices.{choice, ChoiceStored};
 
-use octets::cast::byte_to_index;
-
+// The three numbers that name a choice stay parameters: nothing keeps them, and a struct of them would be made at a call to be taken apart in it.
 fn place(settings: usize, scan: usize, before: usize) -> usize
     requires { (settings ≤ most_settings) × ((scan < most_scans) × (before < settings)) }
     ensures { result ≡ scan * settings + before }
@@ -30,5 +29,5 @@ pub fn read(scratch: &[u8], settings: usize, scan: usize, before: usize) -> usiz
     ensures { (result ≡ choice settings scratch.now scan before) × (result < 256) }
 {
     let at = place(settings, scan, before);
-    byte_to_index(scratch[at])
+    usize::from(scratch[at])
 }

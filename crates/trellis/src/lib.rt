@@ -5,6 +5,7 @@
 // which law: a law is only which settings may follow one.
 #![tactic(auto)]
 
+pub mod cells;
 pub mod choices;
 pub mod pass;
 pub mod square;

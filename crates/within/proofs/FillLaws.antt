@@ -11,17 +11,17 @@ use lib.ListN.{length}
 use borrow.Author.Tests.{ltb-false, le-ltb}
 use Rattle.laws.proofs.Lists.{part_inside}
 use Rattle.tables.specs.Law.{Follows}
-use Rattle.tables.specs.Tables.{Table, weight_at, series}
+use Rattle.tables.specs.Tables.{Table, series}
 use Rattle.tables.proofs.CellLaws.{later_cell}
 use Rattle.tables.proofs.Bounds.{Bounded, table_small, total_small}
 use Rattle.checks.specs.Fit.{Fit}
 use Rattle.checks.proofs.FitLaws.{fit_legal}
-use Rattle.trellis.proofs.PassLaws.{follows_later, later_follows}
+use Rattle.trellis.specs.Square.{CellsOf}
+use Rattle.trellis.proofs.PassLaws.{follows_later, later_follows, later_start}
 use Rattle.within.specs.Ways.{no_way, most_left, Ahead}
 use Rattle.within.specs.Rows.{offer, Untouched, AllPut, Apart, below, above, Fits, row_offer, RowMade}
 use Rattle.within.specs.Filled.{total_at, choice_at, PickAmong, Scanned, Filled}
-use Rattle.within.proofs.RowLaws.{untouched_none}
-use Rattle.within.proofs.WayLaws.{BestWay, Below, ahead_end, ahead_step, ahead_frame}
+use Rattle.within.proofs.WayLaws.{BestWay, Below, ahead_step, ahead_frame}
 
 -- an offer below no_way is of a setting whose rate is not over b, and there it is what the setting costs
 offer_open : (rate distortion b : ℕ) (ahead : ℕ → ℕ) → rate ≤ b → offer rate distortion ahead b ≡ distortion + ahead (b - rate)
@@ -76,20 +76,6 @@ module _ (t : Table) (w : ℕ) where
     pub totals_rest : Untouched 0 (2 * (t.Q * w)) totals₀ totals
     pub choices_rest : Untouched 0 (t.N * (t.Q * w)) choices₀ choices
 
-  pub done_none : {i : ℕ} {before totals : List ℕ} (choices : List ℕ) → i ≡ t.N - 1 → 1 ≤ t.N → AllPut 0 (t.Q * w) 0 before totals →
-      Done i (t.Q * w) 0 totals choices totals choices
-  done_none {i} {before} {totals} choices e h a = record {
-    left = 0;
-    all = omega arith;
-    rows = ahead_end (series t) w t.Q (suc i) (choice_at t.Q w choices) (total_at w 0 totals)
-        (λ p b g l. a.put (p * w + b) (omega (arith, part_inside w {j = p} {m = t.Q} g)));
-    turns = back refl refl;
-    totals_long = refl;
-    choices_long = refl;
-    totals_rest = untouched_none 0 (2 * (t.Q * w)) totals;
-    choices_rest = untouched_none 0 (t.N * (t.Q * w)) choices;
-  }
-
   -- the next scan's rows have their places
   pub done_fits : {i here ahead n at : ℕ} {totals₀ choices₀ totals choices : List ℕ} → Done i here ahead totals₀ choices₀ totals choices →
       2 * (t.Q * w) ≤ length totals₀ → n ≤ t.Q * w → at + n ≤ length choices₀ → Fits n (t.Q * w) here ahead at totals choices
@@ -129,12 +115,15 @@ module _ (t : Table) (w : ℕ) where
         is_open r g o = is r g ∙ offer_open ((series t).rate i p r) ((series t).distortion i p r) b (k r) o
 
     -- a scan more
-    module _ (ahead : ℕ) {i here weight : ℕ} (totals : List ℕ) {choices totals' choices' : List ℕ} (later : 0 < i) (weighs : weight ≡ weight_at t i)
-        (scanned : Scanned t.law (λ p. row_offer weight (t.Q + (i - 1) * (t.Q * t.Q) + p * t.Q) w ahead t.rates t.distortions totals)
+    module _ (ahead : ℕ) {i here weight from : ℕ} {rates distortions : List ℕ} (totals : List ℕ) {choices totals' choices' : List ℕ} (later : 0 < i)
+        (cells : CellsOf t i weight from rates distortions)
+        (scanned : Scanned t.law (λ p. row_offer weight (from + p * t.Q) w ahead rates distortions totals)
         t.Q w t.Q here (i * (t.Q * w)) totals choices totals' choices') where
-      offers : (p b q : ℕ) → row_offer weight (t.Q + (i - 1) * (t.Q * t.Q) + p * t.Q) w ahead t.rates t.distortions totals b q
+      offers : (p b q : ℕ) → row_offer weight (from + p * t.Q) w ahead rates distortions totals b q
           ≡ offer ((series t).rate i p q) ((series t).distortion i p q) (total_at w ahead totals q) b
-      offers p b q = let e = later_cell t.Q i p q (λ z. omega arith) in rw (weighs, e) refl
+      offers p b q =
+          let e = later_cell t.Q i p q (λ z. omega arith) in
+          rw (cells.weighs, cells.starts, cells.rates_are, cells.distortions_are, later_start t.Q i later, e) refl
 
       follows : {p v q : ℕ} (x : ℕ → ℕ) → PickAmong (λ r. (r < t.Q) × t.law p r) x v q → PickAmong (λ r. (r < t.Q) × Follows t.law i p r) x v q
       follows {p} {v} {q} x a = record {
@@ -168,12 +157,13 @@ module _ (t : Table) (w : ℕ) where
           }
 
     -- scan 0, and the whole
-    module _ {here ahead weight : ℕ} {before totals₀ choices₀ totals choices totals' choices' : List ℕ} (weighs : weight ≡ weight_at t 0)
+    module _ {here ahead weight from : ℕ} {rates distortions before totals₀ choices₀ totals choices totals' choices' : List ℕ}
+        (cells : CellsOf t 0 weight from rates distortions)
         (put : AllPut 0 (t.Q * w) 0 before totals₀) (d : Done 0 here ahead totals₀ choices₀ totals choices)
-        (made : RowMade (row_offer weight 0 w ahead t.rates t.distortions totals) w 0 t.Q here 0 totals choices totals' choices') where
-      first_offers : (b q : ℕ) → row_offer weight 0 w ahead t.rates t.distortions totals b q
+        (made : RowMade (row_offer weight from w ahead rates distortions totals) w 0 t.Q here 0 totals choices totals' choices') where
+      first_offers : (b q : ℕ) → row_offer weight from w ahead rates distortions totals b q
           ≡ offer ((series t).rate 0 0 q) ((series t).distortion 0 0 q) (total_at w ahead totals q) b
-      first_offers b q = let e : 0 + q ≡ q = omega arith in rw (weighs, e) refl
+      first_offers b q = let e : 0 + q ≡ q = omega arith in rw (cells.weighs, cells.starts, cells.rates_are, cells.distortions_are, e) refl
 
       first_beyond : (j p b : ℕ) → 1 ≤ j → p < t.Q → b < w → choice_at t.Q w choices j p b ≡ choice_at t.Q w choices' j p b
       first_beyond j p b h g l = sym (made.choices_rest.same (j * (t.Q * w) + (p * w + b))

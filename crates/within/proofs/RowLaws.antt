@@ -3,70 +3,22 @@ use mathlib.Core.Path.{◌≡◌, refl, ap, ◌∙◌}
 use mathlib.Core.Bool.{Bool, true, false, cond}
 use mathlib.Core.List.{List}
 use Prim.Native.Nat.{ℕ, ◌+◌, ◌-◌, ◌*◌, ◌≤◌, ◌<◌}
-use native.Mathlib.Decide.{ℕ_discrete, dec_lt}
+use native.Mathlib.Decide.{dec_lt}
 use native.Mathlib.Omega.{arith}
 use lib.Dec.{ltb}
-use lib.ListN.{length, get_or, set, length-set}
-use lib.Seq.{get_or-set_same, get_or-set_other}
+use lib.ListN.{get_or}
 use borrow.Author.Tests.{ltb-true, ltb-false, lt-ltb, le-ltb}
 use Rattle.laws.proofs.Lists.{part_inside}
 use Rattle.within.specs.Ways.{no_way}
 use Rattle.within.specs.Rows.{offer, Untouched, AllPut, Taken, Pick, Apart, below, above, RowMade}
 
--- one place more is changed
-untouched_more : {from j : ℕ} (v : ℕ) {before l : List ℕ} → Untouched from j before l → Untouched from (j + 1) before (set l (from + j) v)
-untouched_more {from} {j} v {before} {l} u = record {
-  same = λ k h. get_or-set_other l (from + j) k v 0 (λ e. h (omega arith) (omega arith)) ∙ u.same k (λ a b. h a (omega arith));
-}
-
+-- nothing is touched
 pub untouched_none : (from n : ℕ) (l : List ℕ) → Untouched from n l l
 untouched_none from n l = record { same = λ k h. refl }
 
 -- a run that is touched lies in a wider one
 pub untouched_wider : {from j n : ℕ} {before l : List ℕ} → j ≤ n → Untouched from j before l → Untouched from n before l
 untouched_wider h u = record { same = λ k g. u.same k (λ a b. g a (omega arith)) }
-
--- .. and stored, in a run whose other places hold what they should
-stored_at : (x : ℕ → ℕ) (from j v : ℕ) (l : List ℕ) → from + j < length l → v ≡ x j → ((i : ℕ) → i < j → get_or l (from + i) 0 ≡ x i) →
-    (i : ℕ) → i < j + 1 → get_or (set l (from + j) v) (from + i) 0 ≡ x i
-stored_at x from j v l h e f i g = at (ℕ_discrete i j)
-  where
-    at : Dec (i ≡ j) → get_or (set l (from + j) v) (from + i) 0 ≡ x i
-    at (yes z) = rw z (get_or-set_same l (from + j) v 0 h ∙ e)
-    at (no z) = get_or-set_other l (from + j) (from + i) v 0 (λ w. z (omega arith)) ∙ f i (omega arith)
-
-pub put_none : (from v : ℕ) (l : List ℕ) → AllPut from 0 v l l
-put_none from v l = record { put = λ j h. absurd (omega arith); long = refl; rest = untouched_none from 0 l }
-
-pub put_more : {from j v : ℕ} {before l : List ℕ} → from + j < length l → AllPut from j v before l → AllPut from (j + 1) v before (set l (from + j) v)
-put_more {from} {j} {v} {before} {l} h a = record {
-  put = stored_at (λ i. v) from j v l h refl a.put;
-  long = length-set l (from + j) v ∙ a.long;
-  rest = untouched_more v a.rest;
-}
-
-pub taken_none : (x : ℕ → ℕ) (q here at : ℕ) (totals choices : List ℕ) → Taken x q 0 here at totals choices totals choices
-taken_none x q here at totals choices = record {
-  total = λ j h. absurd (omega arith);
-  choice = λ j h. absurd (omega arith);
-  totals_long = refl;
-  choices_long = refl;
-  totals_rest = untouched_none here 0 totals;
-  choices_rest = untouched_none at 0 choices;
-}
-
-pub taken_more : {x : ℕ → ℕ} {q j here at v f : ℕ} {totals choices t c : List ℕ} → here + j < length t → at + j < length c →
-    v ≡ cond (ltb (x j) (get_or totals (here + j) 0)) (x j) (get_or totals (here + j) 0) →
-    f ≡ cond (ltb (x j) (get_or totals (here + j) 0)) q (get_or choices (at + j) 0) →
-    Taken x q j here at totals choices t c → Taken x q (j + 1) here at totals choices (set t (here + j) v) (set c (at + j) f)
-taken_more {x} {q} {j} {here} {at} {v} {f} {totals} {choices} {t} {c} h g e d a = record {
-  total = stored_at (λ i. cond (ltb (x i) (get_or totals (here + i) 0)) (x i) (get_or totals (here + i) 0)) here j v t h e a.total;
-  choice = stored_at (λ i. cond (ltb (x i) (get_or totals (here + i) 0)) q (get_or choices (at + i) 0)) at j f c g d a.choice;
-  totals_long = length-set t (here + j) v ∙ a.totals_long;
-  choices_long = length-set c (at + j) f ∙ a.choices_long;
-  totals_rest = untouched_more v a.totals_rest;
-  choices_rest = untouched_more f a.choices_rest;
-}
 
 -- what lies ahead is not touched by a row apart from it
 pub ahead_same : {n m here ahead : ℕ} {before after : List ℕ} → Apart here n ahead m → Untouched here n before after →
@@ -84,20 +36,25 @@ pub setting_apart : {w here ahead : ℕ} (m q : ℕ) → q < m → Apart here w 
 setting_apart {w} m q h (below g) = below (omega arith)
 setting_apart {w} m q h (above g) = above (omega (arith, part_inside w {j = q} {m = m} h))
 
+-- less of what lies ahead is apart where more is
+pub apart_shorter : {here n ahead k m : ℕ} → k ≤ m → Apart here n ahead m → Apart here n ahead k
+apart_shorter h (below g) = below g
+apart_shorter h (above g) = above (omega arith)
+
 -- a setting of rate r offers in its part of the row, and nothing before it
-module _ (rate distortion q w here ahead at : ℕ) (totals choices : List ℕ) (capped : (j : ℕ) → j < w → get_or totals (here + j) 0 ≤ no_way) where
+module _ (rate distortion q w here at : ℕ) (ahead : ℕ → ℕ) (totals choices : List ℕ) (capped : (j : ℕ) → j < w → get_or totals (here + j) 0 ≤ no_way) where
   abbrev offers : ℕ → ℕ
-  offers = offer rate distortion (λ k. get_or totals (ahead + k) 0)
+  offers = offer rate distortion ahead
 
   -- no way is never less than what stands
   not_less : (j : ℕ) → j < w → ltb no_way (get_or totals (here + j) 0) ≡ false
   not_less j h = le-ltb _ _ (capped j h)
 
-  pub taken_part : {totals' choices' : List ℕ} → rate < w →
-      Taken (λ j. distortion + get_or totals (ahead + j) 0) q (w - rate) (here + rate) (at + rate) totals choices totals' choices' →
+  pub taken_part : (y : ℕ → ℕ) {totals' choices' : List ℕ} → rate < w → ((j : ℕ) → y j ≡ distortion + ahead j) →
+      Taken y q (w - rate) (here + rate) (at + rate) totals choices totals' choices' →
       Taken offers q w here at totals choices totals' choices'
   unfolding offer
-  taken_part {totals'} {choices'} h a = record {
+  taken_part y {totals'} {choices'} h is a = record {
     total = λ j g. total_at j g (dec_lt j rate);
     choice = λ j g. choice_at j g (dec_lt j rate);
     totals_long = a.totals_long;
@@ -110,14 +67,14 @@ module _ (rate distortion q w here ahead at : ℕ) (totals choices : List ℕ) (
       total_at j g (yes l) = rw (lt-ltb j rate l, not_less j g) (a.totals_rest.same (here + j) (λ x y. omega arith))
       total_at j g (no l) =
           let e : here + rate + (j - rate) ≡ here + j = omega arith in
-          rw (le-ltb j rate (omega arith)) (rw e at (a.total (j - rate) (omega arith)))
+          rw (le-ltb j rate (omega arith)) (rw (e, is (j - rate)) at (a.total (j - rate) (omega arith)))
 
       choice_at : (j : ℕ) → j < w → Dec (j < rate) → get_or choices' (at + j) 0 ≡ cond (ltb (offers j) (get_or totals (here + j) 0)) q (get_or choices (at + j) 0)
       choice_at j g (yes l) = rw (lt-ltb j rate l, not_less j g) (a.choices_rest.same (at + j) (λ x y. omega arith))
       choice_at j g (no l) =
           let e : here + rate + (j - rate) ≡ here + j = omega arith in
           let f : at + rate + (j - rate) ≡ at + j = omega arith in
-          rw (le-ltb j rate (omega arith)) (rw (e, f) at (a.choice (j - rate) (omega arith)))
+          rw (le-ltb j rate (omega arith)) (rw (e, f, is (j - rate)) at (a.choice (j - rate) (omega arith)))
 
   -- a rate over every budget that may be left offers nothing
   pub taken_nowhere : w ≤ rate → Taken offers q w here at totals choices totals choices

@@ -5,14 +5,14 @@ use Prim.Native.Nat.{ℕ, ◌+◌, ◌*◌, ◌≤◌, ◌<◌}
 use native.Mathlib.Nat.{mul-le-mul_right}
 use native.Mathlib.Decide.{ℕ_discrete}
 use native.Mathlib.Omega.{arith}
-use lib.ListN.{length, get_or}
+use lib.ListN.{get_or}
 use Rattle.laws.proofs.Lists.{part_inside}
 use Rattle.tables.specs.Law.{Law, SideBySide}
 use Rattle.trellis.specs.Square.{CellsFit}
 use Rattle.trellis.proofs.ClosedLaws.{row_fits}
-use Rattle.within.specs.Rows.{Untouched, Pick, Apart, below, above, Fits, RowMade}
+use Rattle.within.specs.Rows.{Untouched, Pick, Apart, RowMade}
 use Rattle.within.specs.Filled.{PickAmong, Scanned}
-use Rattle.within.proofs.RowLaws.{untouched_none, untouched_wider, ahead_same}
+use Rattle.within.proofs.RowLaws.{untouched_wider, ahead_same}
 
 -- the least offer of settings side by side is the least of those that the law lets follow
 pick_run : {law : Law} {p Q lo hi v first : ℕ} {y x : ℕ → ℕ} → SideBySide law p Q lo hi → ((q : ℕ) → q < Q → y q ≡ x q) → Pick y lo hi v first →
@@ -30,15 +30,6 @@ pick_run {Q = Q} {first = first} s e p = record {
 -- the rows of p settings, with one more
 untouched_rows : {from : ℕ} (p w : ℕ) {l m r : List ℕ} → Untouched (from + p * w) w m r → Untouched from (p * w) l m → Untouched from ((p + 1) * w) l r
 untouched_rows p w u v = record { same = λ k h. u.same k (λ a b. h (omega arith) (omega arith)) ∙ v.same k (λ a b. h a (omega arith)) }
-
-pub scan_none : (law : Law) (x : ℕ → ℕ → ℕ → ℕ) (Q w here at : ℕ) (totals choices : List ℕ) → Scanned law x Q w 0 here at totals choices totals choices
-scan_none law x Q w here at totals choices = record {
-  pick = λ p h. absurd (omega arith);
-  totals_long = refl;
-  choices_long = refl;
-  totals_rest = untouched_none here (0 * w) totals;
-  choices_rest = untouched_none at (0 * w) choices;
-}
 
 module _ {law : Law} {x : ℕ → ℕ → ℕ → ℕ} {Q w p here at lo hi : ℕ} {totals choices t c t' c' : List ℕ} where
   pub scan_more : (y : ℕ → ℕ → ℕ) → SideBySide law p Q lo hi → ((b q : ℕ) → b < w → q < Q → y b q ≡ x p b q) →
@@ -62,25 +53,6 @@ module _ {law : Law} {x : ℕ → ℕ → ℕ → ℕ} {Q w p here at lo hi : �
           let d = part_inside w {j = j} {m = p} (omega arith) in
           rw (r.totals_rest.same (here + (j * w + b)) (λ u v. omega arith), r.choices_rest.same (at + (j * w + b)) (λ u v. omega arith))
           (s.pick j (omega arith) b h)
-
--- a row of a scan is apart from what lies ahead
-row_apart : {n m here ahead : ℕ} (from w : ℕ) {k : ℕ} → from + w ≤ n → k ≤ m → Apart here n ahead m → Apart (here + from) w ahead k
-row_apart from w h g (below l) = below (omega arith)
-row_apart from w h g (above l) = above (omega arith)
-
-module _ {Q w here ahead at : ℕ} {totals choices t c : List ℕ} (fits : Fits (Q * w) (Q * w) here ahead at totals choices) where
-  pub row_of_scan : (p hi : ℕ) → p < Q → hi ≤ Q → length t ≡ length totals → length c ≡ length choices → Untouched here (p * w) totals t →
-      Fits w (hi * w) (here + p * w) ahead (at + p * w) t c
-  row_of_scan p hi h g e f u =
-      let d = part_inside w {j = p} {m = Q} h in
-      let k = mul-le-mul_right {m = hi} {n = Q} w g in
-      record {
-        here_in = omega (arith, fits.here_in);
-        ahead_in = omega (arith, fits.ahead_in);
-        at_in = omega (arith, fits.at_in);
-        apart = row_apart (p * w) w (omega arith) k fits.apart;
-        capped = λ j l. omega (arith, ahead_same fits.apart (untouched_wider (omega arith) u) j (omega arith), fits.capped j (omega arith));
-      }
 
 -- what lies ahead of a setting is not touched by the rows that are made
 pub offers_same : {Q w here ahead p : ℕ} {totals t : List ℕ} → Apart here (Q * w) ahead (Q * w) → p ≤ Q → Untouched here (p * w) totals t →

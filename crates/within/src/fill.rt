@@ -1,115 +1,72 @@
 // All scans, from the last to the first.
 ghost use Rattle.std.specs.Prelude.{◌+◌, ◌*◌, ◌≤◌, ◌<◌, length};
-ghost use Rattle.tables.specs.Limits.{most_settings};
 ghost use Rattle.tables.specs.Law.{law_of};
-ghost use Rattle.tables.specs.Tables.{table};
-ghost use Rattle.checks.specs.Fit.{Fit};
+ghost use Rattle.checks.specs.Given.{table_in};
 ghost use Rattle.trellis.specs.Square.{CellsFit};
 ghost use Rattle.within.specs.Ways.{most_left};
 ghost use Rattle.within.specs.Rows.{Fits, row_offer};
 ghost use Rattle.within.specs.Filled.{Scanned, Filled};
 
-use crate::row::{put_all, row};
-use octets::cast::byte_to_cell;
+use crate::row::{Place, put_all, row};
+use checks::checked::Checked;
+use std::mem::swap;
 use tables::law::run;
+use trellis::cells::Cells;
 
-// One scan: a row for each setting before it. Its cells stand from `from` on.
+// One scan: a row for each setting before it.
 fn scan(
-    rates: &[u32],
-    distortions: &[u32],
-    weight: u32,
-    law: u64,
-    from: usize,
-    settings: usize,
+    cells: &Cells,
+    t: &Checked,
     width: usize,
     totals: &mut [u32],
     choices: &mut [u8],
-    here: usize,
-    ahead: usize,
-    at: usize,
+    place: Place,
 )
-    requires settings_le_most_settings { (settings ≤ most_settings) × ((width ≤ most_left) × CellsFit weight from (settings * settings) rates.now distortions.now) }
-    requires fits { Fits (settings * width) (settings * width) here ahead at totals.old choices.old }
-    ensures { Scanned (law_of law) (λ p. row_offer weight (from + p * settings) width ahead rates.now distortions.now totals.old) settings width settings here at totals.old choices.old totals.new choices.new }
+    requires cells { (width ≤ most_left) × CellsFit cells.now.weight cells.now.from (t.now.settings * t.now.settings) cells.now.rates.now cells.now.distortions.now }
+    requires fits { Fits (t.now.settings * width) (t.now.settings * width) place.here place.ahead place.at totals.old choices.old }
+    ensures { Scanned (law_of t.now.law) (λ p. row_offer cells.now.weight (cells.now.from + p * t.now.settings) width place.ahead cells.now.rates.now cells.now.distortions.now totals.old) t.now.settings width t.now.settings place.here place.at totals.old choices.old totals.new choices.new }
 {
-    for p in 0..settings {
-        let span = run(law, p, settings);
+    for p in 0..t.settings {
+        let after = Cells {
+            from: cells.from + p * t.settings,
+            ..*cells
+        };
         row(
-            rates,
-            distortions,
-            weight,
-            from + p * settings,
-            span.from,
-            span.to,
+            &after,
+            run(t.law, p, t.settings),
             width,
             totals,
             choices,
-            here + p * width,
-            ahead,
-            at + p * width,
+            place.along(p * width),
         );
     }
 }
 
 // The whole program: where the row of scan 0 stands in the totals. Two scans' rows take turns, the one being made and the one that lies ahead.
-pub fn fill(
-    scans: usize,
-    settings: usize,
-    law: u64,
-    width: usize,
-    rates: &[u32],
-    distortions: &[u32],
-    weights: &[u8],
-    choices: &mut [u8],
-    totals: &mut [u32],
-) -> usize
-    requires fit { Fit scans settings rates.now distortions.now weights.now (length choices.old) × (width ≤ most_left) }
-    requires width_in_bounds { (scans * (settings * width) ≤ length choices.old) × (2 * (settings * width) ≤ length totals.old) }
-    ensures { Filled (table scans settings law rates.now distortions.now weights.now) width result totals.old choices.old totals.new choices.new }
+pub fn fill(t: &Checked, width: usize, choices: &mut [u8], totals: &mut [u32]) -> usize
+    requires narrow { width ≤ most_left }
+    requires room { (t.now.scans * (t.now.settings * width) ≤ length choices.old) × (2 * (t.now.settings * width) ≤ length totals.old) }
+    ensures { Filled (table_in t.now) width result totals.old choices.old totals.new choices.new }
 {
-    let size = settings * width;
-    let square = settings * settings;
+    let size = t.settings * width;
     // After the last scan nothing costs anything.
     put_all(totals, 0, size, 0);
     let mut ahead = 0;
     let mut here = size;
-    let mut i = scans - 1;
-    while 0 < i {
-        let before = i - 1;
-        let weight = byte_to_cell(weights[i]);
-        scan(
-            rates,
-            distortions,
-            weight,
-            law,
-            settings + before * square,
-            settings,
-            width,
-            totals,
-            choices,
-            here,
-            ahead,
-            i * size,
-        );
-        let made = here;
-        here = ahead;
-        ahead = made;
-        i = before;
+    for i in (1..t.scans).rev() {
+        let cells = Cells::of_scan(t, i);
+        let at = i * size;
+        scan(&cells, t, width, totals, choices, Place { here, ahead, at });
+        swap(&mut here, &mut ahead);
     }
-    let weight = byte_to_cell(weights[0]);
+    let first = Cells::of_scan(t, 0);
     row(
-        rates,
-        distortions,
-        weight,
-        0,
-        0,
-        settings,
+        &first,
+        0..t.settings,
         width,
         totals,
         choices,
-        here,
-        ahead,
-        0,
+        Place { here, ahead, at: 0 },
     );
     here
 }

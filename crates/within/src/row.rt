@@ -1,26 +1,37 @@
 // One row of totals: after one setting, for every budget that may be left.
-ghost use Rattle.std.specs.Prelude.{cond, ◌≡◌, ℕ, ◌+◌, ◌*◌, ◌≤◌, ◌<◌, get_or, length};
+ghost use Rattle.std.specs.Prelude.{◌≡◌, ℕ, suc, ◌+◌, ◌*◌, ◌≤◌, ◌<◌, ◌^◌, get_or, length};
 ghost use Rattle.tables.specs.Limits.{most_settings, most_cell};
-ghost use Rattle.tables.specs.Legal.{LegalBeside};
 ghost use Rattle.trellis.specs.Square.{CellsFit};
 ghost use Rattle.within.specs.Ways.{no_way, most_left};
-ghost use Rattle.within.specs.Rows.{offer, AllPut, Taken, Fits, row_offer, RowMade};
+ghost use Rattle.within.specs.Rows.{AllPut, Taken, Fits, row_offer, RowMade};
 
-use octets::cast::cell_to_number;
+use least::choose;
+use std::ops::Range;
+use trellis::cells::Cells;
 
 // More than the distortion of any sequence, and with a cell added it still fits.
 const NO_WAY: u32 = 1073741824;
 
-fn choose(wins: bool, a: u32, b: u32) -> u32
-    ensures { result ≡ cond wins a b }
-{
-    if wins { a } else { b }
+// Where a row stands that is made: its totals from `here` on, its choices from `at` on; and in the totals, from `ahead` on, what lies ahead of it.
+#[derive(Clone, Copy)]
+pub struct Place {
+    pub here: usize,
+    pub ahead: usize,
+    pub at: usize,
 }
 
-fn choose_setting(wins: bool, a: u8, b: u8) -> u8
-    ensures { result ≡ cond wins a b }
-{
-    if wins { a } else { b }
+impl Place {
+    // Of the same row from `by` places on, or of a row that stands so far behind it. The same lies ahead.
+    pub fn along(self, by: usize) -> Place
+        requires { (self.here + by < 2 ^ 64) × (self.at + by < 2 ^ 64) }
+        ensures { result ≡ record self { here = self.here + by; at = self.at + by } }
+    {
+        Place {
+            here: self.here + by,
+            at: self.at + by,
+            ..self
+        }
+    }
 }
 
 // One value for n cells.
@@ -28,32 +39,30 @@ pub fn put_all(cells: &mut [u32], from: usize, n: usize, value: u32)
     requires { from + n ≤ length cells.old }
     ensures { AllPut from n value cells.old cells.new }
 {
-    for j in 0..n {
-        cells[from + j] = value;
-    }
+    cells[from..from + n].fill(value);
 }
+
+// Totals and choices stay two parameters, as a call is lent them: a struct of the two would have to be made and borrowed anew at each call below.
 
 // A setting of this distortion takes the places at which it offers less. Both numbers of a choice are at hand, so that it compiles to no branch.
 fn relax(
     totals: &mut [u32],
     choices: &mut [u8],
-    here: usize,
-    ahead: usize,
-    at: usize,
+    place: Place,
     n: usize,
     distortion: u32,
     setting: u8,
 )
-    requires { Fits n n here ahead at totals.old choices.old × (distortion ≤ most_cell) }
-    ensures { Taken (λ j. distortion + get_or totals.old (ahead + j) 0) setting n here at totals.old choices.old totals.new choices.new }
+    requires { Fits n n place.here place.ahead place.at totals.old choices.old × (distortion ≤ most_cell) }
+    ensures { Taken (λ j. distortion + get_or totals.old (place.ahead + j) 0) setting n place.here place.at totals.old choices.old totals.new choices.new }
 {
     for j in 0..n {
-        let offered = distortion + totals[ahead + j];
-        let stands = totals[here + j];
+        let offered = distortion + totals[place.ahead + j];
+        let stands = totals[place.here + j];
         let wins = offered < stands;
-        let chosen = choices[at + j];
-        totals[here + j] = choose(wins, offered, stands);
-        choices[at + j] = choose_setting(wins, setting, chosen);
+        let chosen = choices[place.at + j];
+        totals[place.here + j] = choose(wins, offered, stands);
+        choices[place.at + j] = choose(wins, setting, chosen);
     }
 }
 
@@ -61,68 +70,50 @@ fn relax(
 fn consider(
     totals: &mut [u32],
     choices: &mut [u8],
-    here: usize,
-    ahead: usize,
-    at: usize,
+    place: Place,
     width: usize,
-    rate: u32,
-    weight: u32,
-    plain: u32,
-    setting: u8,
+    cells: &Cells,
+    setting: usize,
 )
-    requires fits { Fits width width here ahead at totals.old choices.old × ((width ≤ most_left) × LegalBeside weight rate plain) }
-    requires by_index { (j : ℕ) → j < width → get_or totals.old (here + j) 0 ≤ no_way }
-    ensures { Taken (offer rate (weight * plain) (λ k. get_or totals.old (ahead + k) 0)) setting width here at totals.old choices.old totals.new choices.new }
+    requires fits { Fits width (suc setting * width) place.here place.ahead place.at totals.old choices.old }
+    requires cells { (setting < most_settings) × ((width ≤ most_left) × CellsFit cells.now.weight cells.now.from (suc setting) cells.now.rates.now cells.now.distortions.now) }
+    requires capped { (j : ℕ) → j < width → get_or totals.old (place.here + j) 0 ≤ no_way }
+    ensures { Taken (λ b. row_offer cells.now.weight cells.now.from width place.ahead cells.now.rates.now cells.now.distortions.now totals.old b setting) setting width place.here place.at totals.old choices.old totals.new choices.new }
 {
-    let taken = cell_to_number(rate) as usize;
+    let taken = cells.rates[cells.from + setting] as usize;
     if taken < width {
+        let counts = cells.weight * cells.distortions[cells.from + setting];
+        let reached = Place {
+            ahead: place.ahead + setting * width,
+            ..place.along(taken)
+        };
         relax(
             totals,
             choices,
-            here + taken,
-            ahead,
-            at + taken,
+            reached,
             width - taken,
-            weight * plain,
-            setting,
+            counts,
+            setting as u8,
         );
     }
 }
 
-// The row after a setting whose next may be those from lo up to hi; their cells stand from `from` on.
+// The row after a setting whose next may be any of a run.
 pub fn row(
-    rates: &[u32],
-    distortions: &[u32],
-    weight: u32,
-    from: usize,
-    lo: usize,
-    hi: usize,
+    cells: &Cells,
+    over: Range<usize>,
     width: usize,
     totals: &mut [u32],
     choices: &mut [u8],
-    here: usize,
-    ahead: usize,
-    at: usize,
+    place: Place,
 )
-    requires lo_le_hi { (lo ≤ hi) × ((hi ≤ most_settings) × ((width ≤ most_left) × CellsFit weight from hi rates.now distortions.now)) }
-    requires fits { Fits width (hi * width) here ahead at totals.old choices.old }
-    ensures { RowMade (row_offer weight from width ahead rates.now distortions.now totals.old) width lo hi here at totals.old choices.old totals.new choices.new }
+    requires over { (over.start ≤ over.end) × (over.end ≤ most_settings) }
+    requires cells { (width ≤ most_left) × CellsFit cells.now.weight cells.now.from over.end cells.now.rates.now cells.now.distortions.now }
+    requires fits { Fits width (over.end * width) place.here place.ahead place.at totals.old choices.old }
+    ensures { RowMade (row_offer cells.now.weight cells.now.from width place.ahead cells.now.rates.now cells.now.distortions.now totals.old) width over.start over.end place.here place.at totals.old choices.old totals.new choices.new }
 {
-    put_all(totals, here, width, NO_WAY);
-    for q in lo..hi {
-        let rate = rates[from + q];
-        let plain = distortions[from + q];
-        consider(
-            totals,
-            choices,
-            here,
-            ahead + q * width,
-            at,
-            width,
-            rate,
-            weight,
-            plain,
-            q as u8,
-        );
+    put_all(totals, place.here, width, NO_WAY);
+    for q in over.start..over.end {
+        consider(totals, choices, place, width, cells, q);
     }
 }

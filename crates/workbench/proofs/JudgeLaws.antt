@@ -9,6 +9,8 @@ use lib.Dec.{eqb, ltb}
 use lib.ListN.{length, take, drop, length-take, length-drop}
 use lib.Seq.{take-add, take-take, drop_at, drop-drop}
 use borrow.Author.Tests.{eqb-true, eqb-false, le-ltb, lt-ltb}
+use Rattle.std.specs.Prelude.{Result, Ok, Err}
+use Rattle.std.specs.Result.{is_err}
 use Rattle.tables.specs.declared.refusal.Refusal.{Refusal}
 use Rattle.tables.specs.declared.refusal.Refusal.TheVariants.{Scans, Settings, StepLaw}
 use Rattle.tables.specs.Tables.{cells}
@@ -19,11 +21,11 @@ use Rattle.tables.specs.Law.{law_out}
 use Rattle.laws.proofs.Tests.{never}
 use Rattle.reading.specs.Fed.{as_words, taken_of}
 use Rattle.reading.specs.declared.State.{State}
-use Rattle.workbench.specs.Request.{Request, bad_input, out_of_range, too_large, to_plan, request, most_cells}
+use Rattle.workbench.specs.Request.{Request, bad_input, to_plan, request, most_cells}
 use Rattle.workbench.specs.Done.{settles}
-use Rattle.workbench.specs.Parts.{Planable, Heads, Requests, plan_requested, scans, settings, law, budget, rates, distortions, out_by}
-use Rattle.workbench.specs.declared.judge.Head.{Head}
-use Rattle.workbench.specs.declared.judge.Head.TheVariants as head
+use Rattle.workbench.specs.Parts.{Planable, Heads, Requests, VerdictOf, plan_requested, scans, settings, law, budget, rates, distortions, out_by}
+use Rattle.workbench.specs.declared.judge.Unplanned.{Unplanned}
+use Rattle.workbench.specs.declared.judge.Unplanned.TheVariants as unplanned
 use Rattle.workbench.proofs.RequestLaws.{settled, rest_requested, by_words, four_given, too_few, rest_other, rest_cells, all_taken, not_taken}
 
 -- where the ranges pass, N is in its range
@@ -48,15 +50,11 @@ by_range n = by_tests (scans_out (scans n)) (settings_out (settings n)) (law_out
     by_tests false false true l = refl
     by_tests false false false l = refl
 
-abbrev pub stops : Head → Bool
-stops (head.Refused r) = true
-stops head.TooLarge = true
-stops (head.Cells k) = false
-
-pub head_settles : (n : List ℕ) (h : Head) → Heads n h → settles n ≡ stops h
-head_settles n (head.Refused r) e = rw e at (by_range n)
-head_settles n head.TooLarge e = rw e.0 at (by_range n) ∙ lt-ltb _ _ e.1
-head_settles n (head.Cells k) f = rw f.in_range at (by_range n) ∙ not_large f
+pub head_settles : (n : List ℕ) (h : Result ℕ Unplanned) → Heads n h → settles n ≡ is_err h
+head_settles n (Err unplanned.BadInput) e = absurd e
+head_settles n (Err (unplanned.OutOfRange r)) e = rw e at (by_range n)
+head_settles n (Err unplanned.TooLarge) e = rw e.0 at (by_range n) ∙ lt-ltb _ _ e.1
+head_settles n (Ok k) f = rw f.in_range at (by_range n) ∙ not_large f
 
 -- what is asked beyond the first four
 abbrev left_requested : List ℕ → State → Request
@@ -78,11 +76,11 @@ module _ (n : List ℕ) (s : State) (len : 8196 ≤ length n) where
       by_more true e = not_taken text n s len fed e ∙ ap (λ (t : Bool). cond t bad_input (settled n bad_input)) (le-ltb s.taken 4 h)
       by_more false e = let t = all_taken text n s fed e in by_words text t.1 ∙ four_given n s.taken [] h t.0
 
-  pub refused_requested : {r : Refusal} → 4 ≤ s.taken → out_by n ≡ some r → Requests n s (out_of_range r)
-  refused_requested h e text fed = rw e at (four_requested h text fed)
-
-  pub large_requested : 4 ≤ s.taken → out_by n ≡ none → most_cells < cells (scans n) (settings n) → Requests n s too_large
-  large_requested h e g text fed = rw (e, lt-ltb _ _ g) at (four_requested h text fed)
+  -- why nothing is planned, as the first four numbers settle it
+  pub unplanned_requested : (u : Unplanned) → 4 ≤ s.taken → Heads n (Err u) → VerdictOf n s (Err u)
+  unplanned_requested unplanned.BadInput h e = absurd e
+  unplanned_requested (unplanned.OutOfRange r) h e = λ text fed. rw e at (four_requested h text fed)
+  unplanned_requested unplanned.TooLarge h e = λ text fed. rw (e.0, lt-ltb _ _ e.1) at (four_requested h text fed)
 
   -- in range and not too large: the rest decides
   rest_decides : {k : ℕ} → 4 ≤ s.taken → Planable n k → Requests n s (left_requested n s)

@@ -6,10 +6,13 @@ use native.Mathlib.Omega.{arith}
 use lib.ListN.{length, take, drop, replicate, length-take}
 use lib.Seq.{sets, sets-eq, length-sets, take_at}
 use Rattle.tables.specs.declared.refusal.Refusal.{Refusal}
-use Rattle.checks.specs.Planning.{asking}
+use Rattle.std.specs.Borrow.{Bor, MutBor}
+use Rattle.checks.specs.Given.{asked_of}
+use Rattle.checks.specs.declared.lent.Tables.{Tables}
 use Rattle.printing.specs.Lines.{line, ave, minmax}
 use Rattle.laws.specs.Put.{Put}
 use Rattle.laws.proofs.Tests.{never}
+use Rattle.printing.specs.declared.line.Said.{Said}
 use Rattle.printing.specs.declared.line.Said.TheVariants.{Refused}
 use Rattle.laws.proofs.PutLaws.{next}
 use Rattle.reading.specs.Fed.{Feeds}
@@ -17,7 +20,7 @@ use Rattle.reading.specs.declared.State.{State}
 use Rattle.workbench.specs.Request.{Request, out_of_range, to_plan}
 use Rattle.workbench.specs.Written.{PromiseOf, PlannedLine, AveLine, MinmaxLine, WrittenFor, both_refused, both_planned}
 use Rattle.workbench.specs.Done.{Answers}
-use Rattle.workbench.specs.Parts.{RightLine, Holds, Requests, plan_requested, scans, settings, law, budget, rates, distortions}
+use Rattle.workbench.specs.Parts.{CallLine, RightLine, Holds, Requests, plan_requested, scans, settings, law, budget, rates, distortions}
 
 -- the first settings of a plan
 pub prefix_long : (N : ℕ) (plan : List ℕ) → N ≤ length plan → N ≡ length (take N plan)
@@ -33,18 +36,28 @@ front_ones zero M h = refl
 front_ones (suc n) zero h = never (omega arith)
 front_ones (suc n) (suc m) h = ap (λ (l : List ℕ). 1 ∷ l) (front_ones n m (omega arith))
 
--- the line of the answer that a call gave
-pub given_line : {Answer : Type 0} (promise : PromiseOf Answer) (line_of : Answer → List ℕ → List ℕ) {N Q l B : ℕ}
-    {rs ds before after plan scratch : List ℕ} {at r : ℕ} → N ≤ 1024 → (answer : Answer) →
-    promise (asking N Q l rs ds (take N (replicate 1024 1)) 1024 4096) B (replicate 1024 0) (replicate 4096 0) answer plan scratch →
-    Put before at (line_of answer (take N plan)) after r → r ≤ at + (256 + 4 * length (take N plan)) →
-    RightLine (PlannedLine promise line_of N Q l B rs ds) before at after r
-given_line promise line_of {N = N} {plan = plan} {scratch = scratch} small answer p u h = record {
-  line = line_of answer (take N plan);
-  right = record { given = answer; plan = plan; scratch = scratch; kept = rw (front_ones N 1024 small) at p; written = refl };
-  put = u;
-  short = omega (arith, few_bytes N plan small);
-}
+-- the line of what a call said is that of its answer, where the call keeps this promise and this is said of it
+pub planned_line : {Answer : Type 0} (promise : PromiseOf Answer) (said_of : Answer → Said)
+    {call : Bor Tables → ℕ → (plan scratch : MutBor (List ℕ)) → Answer → (plan' scratch' : MutBor (List ℕ)) → Type 0} {says : Answer → Said → Type 0}
+    {t : Tables} {B : ℕ} {word before after : List ℕ} {at r : ℕ} →
+    ((lent : Bor Tables) (p s : MutBor (List ℕ)) (x : Answer) (p' s' : MutBor (List ℕ)) → call lent B p s x p' s' →
+    promise (asked_of lent.now (length p.now) (length s.now)) B p.now s.now x p'.now s'.now) →
+    ((x : Answer) (y : Said) → says x y → y ≡ said_of x) → t.scans ≤ 1024 → t.weights.now ≡ take t.scans (replicate 1024 1) →
+    RightLine (CallLine call says t B word) before at after r →
+    RightLine (PlannedLine promise (λ x s. line word (said_of x) s) t.scans t.settings t.law B t.rates.now t.distortions.now) before at after r
+planned_line promise said_of {t = t} keeps says small ones l =
+    let k = l.right in record {
+      line = l.line;
+      right = record {
+        given = k.given;
+        plan = k.plan'.now;
+        scratch = k.scratch'.now;
+        kept = rw (k.tables_lent, k.plan_lent, k.scratch_lent, ones, front_ones t.scans 1024 small) at (keeps k.lent k.plan k.scratch k.given k.plan' k.scratch' k.kept);
+        written = k.written ∙ ap (λ (y : Said). line _ y (take t.scans k.plan'.now)) (says k.given k.said k.says_so);
+      };
+      put = l.put;
+      short = l.short;
+    }
 
 -- the two parts of the numbers that are lent
 rates_part : (n : List ℕ) (k : ℕ) → take (4 + k - 4) (drop 4 n) ≡ rates n k
@@ -61,34 +74,40 @@ read_requested n k {N} {Q} {l} {B} a b c d =
     let ds = distortions_part n k in
     cc
 
+-- a buffer keeps its length
+pub as_long : {d o t : List ℕ} {at r : ℕ} → Put d at t o r → length o ≡ length d
+as_long {d} {o} {t} {at} p = ap length p.so ∙ length-sets d at t
+
 -- one line, from the start
 pub one_line : (d l : List ℕ) → length l ≤ length d → take (length l) (sets d 0 l) ≡ l
 one_line d l h = ap (λ (x : List ℕ). take (length l) x) (sets-eq l d 0 (omega arith)) ∙ take_at l (drop (0 + length l) d) (length l) refl
 
--- a line alone, as `put` leaves it
-pub alone_put : (d : List ℕ) {e : List ℕ} {r : ℕ} (a : List ℕ) → (r ≡ 0 + length a) × (e ≡ sets d 0 a) → length a ≤ length d → (r ≤ length e) ×
-    (take r e ≡ a)
-alone_put d {e} {r} a p h =
-    let re : r ≡ length a = let z = p.0 in omega arith in
-    let long : length e ≡ length d = ap length p.1 ∙ length-sets d 0 a in
-    (omega arith, ap (λ (k : ℕ). take k e) re ∙ ap (λ (x : List ℕ). take (length a) x) p.1 ∙ one_line d a h)
+-- a line alone, put at the front
+pub alone_put : {d e l : List ℕ} {at r : ℕ} → at ≡ 0 → Put d at l e r → length l ≤ length d → (r ≤ length e) × (take r e ≡ l)
+alone_put {d} {e} {l} {at} {r} o p h =
+    let re : r ≡ length l = let z = p.end in omega arith in
+    let so : e ≡ sets d 0 l = rw o at p.so in
+    (omega (arith, as_long p), ap (λ (k : ℕ). take k e) re ∙ ap (λ (x : List ℕ). take (length l) x) so ∙ one_line d l h)
 
 -- both lines, the second right after the first
-both_put : {d e f a b : List ℕ} {m r : ℕ} → Put d 0 a e m → Put e m b f r → r ≤ length d → (r ≤ length f) × (take r f ≡ a ++ b)
-both_put {d} {e} {f} {a} {b} {m} {r} u w h =
-    let z : Put d 0 (a ++ b) f r = next u w in
-    alone_put d (a ++ b) (z.end, z.so) (omega (arith, z.end))
+both_put : {d e f a b : List ℕ} {at m r : ℕ} → at ≡ 0 → Put d at a e m → Put e m b f r → r ≤ length d → (r ≤ length f) × (take r f ≡ a ++ b)
+both_put {d} {e} {f} {a} {b} o u w h = let z = next u w in alone_put o z (omega (arith, z.end))
 
-pub refused_put : {x : Refusal} {d e f : List ℕ} {m r : ℕ} → Put d 0 (line ave (Refused x) []) e m → Put e m (line minmax (Refused x) []) f r →
+pub refused_put : {x : Refusal} {d e f : List ℕ} {at m r : ℕ} → at ≡ 0 → Put d at (line ave (Refused x) []) e m → Put e m (line minmax (Refused x) []) f r →
     r ≤ length d → Holds (out_of_range x) r f
-refused_put {x} u w h = let z = both_put u w h in (z.0, rw z.1 (both_refused x))
+refused_put {x} o u w h = let z = both_put o u w h in (z.0, rw z.1 (both_refused x))
 
-pub planned_put : {N Q l B : ℕ} {rs ds d e f : List ℕ} {m r : ℕ} {a : Request} → a ≡ to_plan N Q l B rs ds → RightLine (AveLine N Q l B rs ds) d 0 e m →
-    RightLine (MinmaxLine N Q l B rs ds) e m f r → 8704 ≤ length d → Holds a r f
-planned_put {N} {Q} {l} {B} {rs} {ds} q u w h =
-    let z = both_put u.put w.put (omega (arith, u.short, w.short)) in
+pub planned_put : {N Q l B : ℕ} {rs ds d e f : List ℕ} {at m r : ℕ} {a : Request} → at ≡ 0 → a ≡ to_plan N Q l B rs ds →
+    RightLine (AveLine N Q l B rs ds) d at e m → RightLine (MinmaxLine N Q l B rs ds) e m f r → 8704 ≤ length d → Holds a r f
+planned_put {N} {Q} {l} {B} {rs} {ds} o q u w h =
+    let z = both_put o u.put w.put (omega (arith, u.short, w.short)) in
     (z.0, rw (z.1, q) (both_planned N Q l B rs ds u.line w.line u.right w.right))
 
+-- a line that stands alone is what is asked
+pub alone_holds : {d e l : List ℕ} {at r : ℕ} {a : Request} → at ≡ 0 → Put d at l e r → length l ≤ length d → WrittenFor a l → Holds a r e
+alone_holds o p h w = let z = alone_put o p h in (z.0, rw z.1 w)
+
 -- what is written for what the ended text asks is written for the text
-pub answers : {n m out : List ℕ} {s e : State} {a : Request} → Feeds n (32 ∷ []) s m e → Requests m e a → WrittenFor a out → Answers n s out
-answers f q w = λ text fed. rw (q text (f text fed)) w
+pub answers : {n m out ys : List ℕ} {s e : State} {r : ℕ} → Feeds n (32 ∷ []) s m e → (a : Request) × Requests m e a × Holds a r out → ys ≡ out →
+    (r ≤ length ys) × Answers n s (take r ys)
+answers f (a, q, h) e = rw e (h.0, λ text fed. rw (q text (f text fed)) h.1)

@@ -1,4 +1,6 @@
 -- bench never writes refusal 5 or 6: what it plans has tables and weights of the exact length and buffers that are long enough. Assumes nothing.
+use Rattle.promise.specs.Answers.{MinmaxAnswer, AverageAnswer}
+use Rattle.std.specs.Prelude.{Err}
 use mathlib.Core.Path.{◌≡◌, refl, ap, ◌∙◌}
 use mathlib.Core.Bool.{Bool, true, false, cond}
 use mathlib.Core.Option.{Option, none, some}
@@ -20,10 +22,6 @@ use Rattle.tables.specs.Tables.{cells, scratch_need}
 use Rattle.checks.specs.Planning.{asking, range_checks, scans_out, settings_out}
 use Rattle.checks.proofs.GiveLaws.{given, gives_when, gives_first}
 use Rattle.checks.proofs.PlanningLaws.{in_ranges}
-use Rattle.promise.specs.declared.AverageAnswer.{AverageAnswer}
-use Rattle.promise.specs.declared.AverageAnswer.TheVariants as average_answer
-use Rattle.promise.specs.declared.MinmaxAnswer.{MinmaxAnswer}
-use Rattle.promise.specs.declared.MinmaxAnswer.TheVariants as minmax_answer
 use Rattle.promise.specs.Promise.{average_reply, minmax_reply}
 use Rattle.promise.proofs.Sizes.{SizesFit, NotFiveOrSix, below_five, never_by_size}
 use Rattle.reading.specs.Text.{words}
@@ -160,7 +158,7 @@ written_neither h alone_bad = bad_input_alone
 written_neither h alone_large = too_large_alone
 written_neither h (both_refused r) =
     let n : NotFiveOrSix (number_of r) = below_five (omega arith) in
-    two_lines (average_answer.Refused r) (minmax_answer.Refused r) [] [] n n
+    two_lines (Err r) (Err r) [] [] n n
 written_neither h (both_planned N Q law B rates distortions first second a m) =
     let n : NotFiveOrSix (average_reply a.given).number = never_by_size tt h a.kept in
     let n' : NotFiveOrSix (minmax_reply m.given).number = never_by_size tt h m.kept in

@@ -5,10 +5,12 @@ mod judge;
 mod lines;
 
 ghost use Rattle.std.specs.Prelude.{◌≡◌, true, ◌||◌, ◌&&◌, ◌≤◌, leb, length, take};
+ghost use Rattle.workbench.specs.Request.{Request};
+ghost use Rattle.workbench.specs.Parts.{Requests, Holds};
 ghost use Rattle.workbench.specs.Done.{settles, Decided, Answers};
 
-use crate::judge::{Head, Verdict, first_four, judge};
-use printing::put::put;
+use crate::judge::{Unplanned, first_four, judge};
+use printing::put::Text;
 use reading::{State, feed};
 
 // Has enough been read? A word that has ended was not taken, or N, Q or law is out of range, or the table is too large: nothing that may
@@ -18,17 +20,21 @@ pub fn enough(s: State, numbers: &[u32]) -> bool
     ensures value { result ≡ (s.more || (leb 4 s.taken && settles numbers.now)) }
     ensures decided { result ≡ true → Decided numbers.now s }
 {
-    if s.more {
-        return true;
-    }
-    if s.taken < 4 {
-        return false;
-    }
-    let head = first_four(numbers);
-    match head {
-        Head::Refused(_) => true,
-        Head::TooLarge => true,
-        Head::Cells(_) => false,
+    s.more || (4 <= s.taken && first_four(numbers).is_err())
+}
+
+// Puts the lines for the text whose numbers these are; a separator has ended it.
+fn put_answer(text: &mut Text, ended: State, numbers: &[u32])
+    requires in_bounds { 8196 ≤ length numbers.now }
+    requires in_bounds_2 { (text.old.at ≡ 0) × (8704 ≤ length text.old.out.now) }
+    ensures same_buffer { text.new.out.ghost_name ≡ text.old.out.ghost_name }
+    ensures asked { (a : Request) × Requests numbers.now ended a × Holds a text.new.at text.new.out.now }
+{
+    match judge(ended, numbers) {
+        Ok(cells) => lines::put_planned(text, numbers, cells),
+        Err(Unplanned::OutOfRange(r)) => lines::put_refused(text, r),
+        Err(Unplanned::BadInput) => text.put(b"bad input\n"),
+        Err(Unplanned::TooLarge) => text.put(b"too large\n"),
     }
 }
 
@@ -39,11 +45,7 @@ pub fn answer(s: State, numbers: &mut [u32], out: &mut [u8]) -> usize
     ensures { (result ≤ length out.new) × Answers numbers.old s (take result out.new) }
 {
     let ended = feed(s, b" ", numbers);
-    let verdict = judge(ended, numbers);
-    match verdict {
-        Verdict::BadInput => put(out, 0, b"bad input\n"),
-        Verdict::OutOfRange(r) => lines::refused(out, r),
-        Verdict::TooLarge => put(out, 0, b"too large\n"),
-        Verdict::Ready(cells) => lines::planned(numbers, cells, out),
-    }
+    let mut text = Text { out, at: 0 };
+    put_answer(&mut text, ended, numbers);
+    text.at
 }

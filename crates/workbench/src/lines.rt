@@ -1,111 +1,65 @@
-// The lines that bench writes, into a lent buffer.
-ghost use Rattle.std.specs.Prelude.{◌+◌, ◌≤◌, length};
+// The lines that bench writes for the numbers that it has taken.
+ghost use Rattle.std.specs.Prelude.{◌≡◌, ◌+◌, ◌≤◌, length};
 ghost use Rattle.workbench.specs.Request.{out_of_range};
-ghost use Rattle.workbench.specs.Parts.{Planable, RightLine, Holds, plan_requested};
-ghost use Rattle.workbench.specs.Written.{AveLine, MinmaxLine};
+ghost use Rattle.workbench.specs.Parts.{Planable, CallLine, RightLine, Holds, plan_requested};
 
-use octets::cast::cell_to_number;
+use checks::lent::Tables;
 use planner::average::average_plan;
 use planner::minmax::minmax_plan;
-use printing::line::{Said, average_said, minmax_said, put_line};
+use printing::line::Said;
+use printing::put::Text;
 use tables::refusal::Refusal;
 
-// The first line of a table that is planned, with a weight of 1 for each scan and buffers of zeros that are large enough for every such table.
-fn average_at(
-    scans: u64,
-    settings: u64,
-    law: u64,
+// A line of a table that is planned, by a call that is lent buffers of zeros, large enough for every such table.
+fn put_call<A: Into<Said>, F: FnOnce(&Tables, u64, &mut [u8], &mut [u8]) -> A>(
+    text: &mut Text,
+    word: &[u8],
+    t: &Tables,
     budget: u64,
-    rates: &[u32],
-    distortions: &[u32],
-    out: &mut [u8],
-    at: usize,
-) -> usize
-    requires { (scans ≤ 1024) × (at + 4352 ≤ length out.old) }
-    ensures { RightLine (AveLine scans settings law budget rates.now distortions.now) out.old at out.new result }
+    call: F,
+)
+    requires callable { F.IsAlwaysCallable call }
+    requires few { (t.now.scans ≤ 1024) × (length word.now ≤ 103) }
+    requires room { text.old.at + 4352 ≤ length text.old.out.now }
+    ensures same_buffer { text.new.out.ghost_name ≡ text.old.out.ghost_name }
+    ensures line { RightLine (CallLine (F.post call) A.converts t.now budget word.now) text.old.out.now text.old.at text.new.out.now text.new.at }
 {
-    let planned = scans as usize;
-    let ones = [1u8; 1024];
     let mut plan = [0u8; 1024];
     let mut scratch = [0u8; 4096];
-    let answer = average_plan(
-        scans,
-        settings,
-        law,
-        budget,
-        rates,
-        distortions,
-        &ones[..planned],
-        &mut plan,
-        &mut scratch,
-    );
-    put_line(out, at, b"ave", average_said(answer), &plan[..planned])
+    let said = call(t, budget, &mut plan, &mut scratch).into();
+    text.put_line(word, said, &plan[..t.scans as usize]);
 }
 
-// And the second.
-fn minmax_at(
-    scans: u64,
-    settings: u64,
-    law: u64,
-    budget: u64,
-    rates: &[u32],
-    distortions: &[u32],
-    out: &mut [u8],
-    at: usize,
-) -> usize
-    requires { (scans ≤ 1024) × (at + 4352 ≤ length out.old) }
-    ensures { RightLine (MinmaxLine scans settings law budget rates.now distortions.now) out.old at out.new result }
-{
-    let planned = scans as usize;
-    let ones = [1u8; 1024];
-    let mut plan = [0u8; 1024];
-    let mut scratch = [0u8; 4096];
-    let answer = minmax_plan(
-        scans,
-        settings,
-        law,
-        budget,
-        rates,
-        distortions,
-        &ones[..planned],
-        &mut plan,
-        &mut scratch,
-    );
-    put_line(out, at, b"minmax", minmax_said(answer), &plan[..planned])
-}
-
-// Both lines of a table that is planned: the first four numbers, and the cells of each table after them.
-pub fn planned(numbers: &[u32], cells: usize, out: &mut [u8]) -> usize
+// Both lines of a table that is planned: the first four numbers, and the cells of each table after them; with a weight of 1 for each scan.
+pub fn put_planned(text: &mut Text, numbers: &[u32], cells: usize)
     requires in_bounds { (8196 ≤ length numbers.now) × Planable numbers.now cells }
-    requires in_bounds_2 { 8704 ≤ length out.old }
-    ensures { Holds (plan_requested numbers.now cells) result out.new }
+    requires in_bounds_2 { (text.old.at ≡ 0) × (8704 ≤ length text.old.out.now) }
+    ensures same_buffer { text.new.out.ghost_name ≡ text.old.out.ghost_name }
+    ensures lines { Holds (plan_requested numbers.now cells) text.new.at text.new.out.now }
 {
-    let scans = cell_to_number(numbers[0]);
-    let settings = cell_to_number(numbers[1]);
-    let law = cell_to_number(numbers[2]);
-    let budget = cell_to_number(numbers[3]);
+    let scans = u64::from(numbers[0]);
+    let budget = u64::from(numbers[3]);
     let middle = 4 + cells;
     let end = middle + cells;
-    let rates = &numbers[4..middle];
-    let distortions = &numbers[middle..end];
-    let second = average_at(scans, settings, law, budget, rates, distortions, out, 0);
-    minmax_at(
+    let ones = [1u8; 1024];
+    let t = Tables {
         scans,
-        settings,
-        law,
-        budget,
-        rates,
-        distortions,
-        out,
-        second,
-    )
+        settings: u64::from(numbers[1]),
+        law: u64::from(numbers[2]),
+        rates: &numbers[4..middle],
+        distortions: &numbers[middle..end],
+        weights: &ones[..scans as usize],
+    };
+    put_call(text, b"ave", &t, budget, average_plan);
+    put_call(text, b"minmax", &t, budget, minmax_plan);
 }
 
 // The refusal on both lines.
-pub fn refused(out: &mut [u8], r: Refusal) -> usize
-    requires { 8704 ≤ length out.old }
-    ensures { Holds (out_of_range r) result out.new }
+pub fn put_refused(text: &mut Text, r: Refusal)
+    requires { (text.old.at ≡ 0) × (8704 ≤ length text.old.out.now) }
+    ensures same_buffer { text.new.out.ghost_name ≡ text.old.out.ghost_name }
+    ensures lines { Holds (out_of_range r) text.new.at text.new.out.now }
 {
-    let second = put_line(out, 0, b"ave", Said::Refused(r), b"");
-    put_line(out, second, b"minmax", Said::Refused(r), b"")
+    text.put_line(b"ave", Said::Refused(r), b"");
+    text.put_line(b"minmax", Said::Refused(r), b"");
 }

@@ -1,9 +1,6 @@
--- `bench::read_text` meets its contract: what is known of the text so far, and a turn fewer is left each time.
+-- `bench::read_text` meets its contract: what is known of the text so far.
 use Rattle.bench.specs.Got.{Got}
 use Rattle.bench.proofs.read_text.Given as goal
 
-abbrev pub invariant-loop-turns : goal.invariant-loop-turns
-invariant-loop-turns g l = Got l.numbers l.s
-
-abbrev pub decreases-loop-turns : goal.decreases-loop-turns
-decreases-loop-turns g l = l.turns
+abbrev pub invariant-loop : goal.invariant-loop
+invariant-loop g l = Got l.numbers l.s

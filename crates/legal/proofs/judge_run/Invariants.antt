@@ -1,11 +1,6 @@
--- `legal::judge_run` meets its contract. The loop's invariant: what is kept is the lowest illegal cell of those passed, or "no cell". The
--- measure is what is left.
-use Prim.Native.Nat.{◌≤◌, ◌-◌}
+-- `legal::judge_run` meets its contract. The loop's invariant: what is kept is the lowest illegal cell of those passed, or "no cell".
 use Rattle.legal.proofs.RunLaws.{KeptSoFar}
 use Rattle.legal.proofs.judge_run.Given as goal
 
 abbrev pub invariant-loop-far : goal.invariant-loop-far
-invariant-loop-far l = KeptSoFar (λ k. l.weight) l.rates l.distortions l.from l.far l.lowest × (l.far ≤ l.to - l.from)
-
-abbrev pub decreases-loop-far : goal.decreases-loop-far
-decreases-loop-far l = l.to - l.from - l.far
+invariant-loop-far l = KeptSoFar (λ k. l.weight) l.rates l.distortions l.from l.far l.lowest

@@ -1,10 +1,9 @@
--- `reading::closed` meets its contract: a case for each kind of word.
-use mathlib.Core.Path.{refl}
-use Rattle.reading.proofs.FeedLaws.{fed_between, fed_other}
+-- `reading::closed` meets its contract: no word, and one with another byte in it.
+use Rattle.reading.proofs.FeedLaws.{closes_between, closes_other}
 use Rattle.reading.proofs.closed.Goals as goal
 
-pub returns-in-Between : goal.returns-in-Between
-returns-in-Between c = record { closes = λ text d h m f. fed_between d h c.in-Between.is m f; numbers_len_unchanged = refl }
+pub returns-in-Between-clause-closes : goal.returns-in-Between-clause-closes
+returns-in-Between-clause-closes c = closes_between c.in-Between.is
 
-pub returns-in-Other : goal.returns-in-Other
-returns-in-Other c = record { closes = λ text d h m f. rw c.refused.ensures (fed_other d h c.in-Other.is m f); numbers_len_unchanged = refl }
+pub returns-in-Other-clause-closes : goal.returns-in-Other-clause-closes
+returns-in-Other-clause-closes c = rw c.refused.ensures (closes_other c.in-Other.is)

@@ -1,18 +1,13 @@
 -- `reading::number` meets its contract: over the limit, no room, taken.
-use mathlib.Core.Path.{refl}
 use native.Mathlib.Omega.{arith}
-use lib.ListN.{length-set}
-use Rattle.reading.proofs.FeedLaws.{fed_over, fed_full, fed_number}
+use Rattle.reading.proofs.FeedLaws.{closes_over, closes_full, closes_number}
 use Rattle.reading.proofs.number.Goals as goal
 
-pub returns-then-v-gt-MOST : goal.returns-then-v-gt-MOST
-returns-then-v-gt-MOST c =
-    let a = c.args in record { closes = λ text d h m f. rw c.refused.ensures (fed_over d a.v h c.requires (omega arith) m f); numbers_len_unchanged = refl }
+pub returns-in_default-clause-closes : goal.returns-in_default-clause-closes
+returns-in_default-clause-closes c = rw c.refused.ensures (closes_over c.requires (omega (arith, c.in_default.ensures)))
 
-pub returns-then-numbers-at : goal.returns-then-numbers-at
-returns-then-numbers-at c =
-    let a = c.args in record { closes = λ text d h m f. rw c.refused-then-numbers-at.ensures (fed_full d a.v h c.requires c.if-numbers-at.true m f); numbers_len_unchanged = refl }
+pub returns-then-numbers-at-clause-closes : goal.returns-then-numbers-at-clause-closes
+returns-then-numbers-at-clause-closes c = rw c.refused-then-numbers-at.ensures (closes_full c.requires c.if-numbers-at.true)
 
-pub returns : goal.returns
-returns c =
-    let a = c.args in record { closes = λ text d h m f. fed_number d a.v h c.requires (omega arith) c.if-numbers-at.false m f; numbers_len_unchanged = simp length-set }
+pub returns-clause-closes : goal.returns-clause-closes
+returns-clause-closes c = let h = c.in-Ok.ensures in rw h.1 (closes_number c.requires (omega arith) c.if-numbers-at.false)

@@ -5,7 +5,4 @@ use lib.ListN.{get_or}
 use Rattle.best.proofs.trace.least_left.Given as goal
 
 abbrev pub invariant-loop-b : goal.invariant-loop-b
-invariant-loop-b l = (l.b < l.width) × ((l.total ≡ get_or l.cells (l.row + (l.width - 1)) 0) × ((j : ℕ) → j < l.b → get_or l.cells (l.row + j) 0 ≡ get_or l.cells (l.row + (l.width - 1)) 0 → ⊥))
-
-abbrev pub decreases-loop-b : goal.decreases-loop-b
-decreases-loop-b l = l.width - l.b
+invariant-loop-b l = (j : ℕ) → j < l.b → get_or l.cells (l.row + j) 0 ≡ get_or l.cells (l.row + (l.width - 1)) 0 → ⊥

@@ -1,44 +1,11 @@
 -- `checks::check::plain_front` meets its contract: the stages in their order.
-use mathlib.Core.Path.{◌≡◌, refl, sym, ap, ◌∙◌}
-use mathlib.Core.Option.{none, some}
-use mathlib.Core.List.{[], ◌∷◌}
+use mathlib.Core.Path.{sym}
 use Rattle.tables.specs.Limits.{most_scans}
-use Rattle.tables.specs.declared.refusal.Refusal.TheVariants as refusal
-use Rattle.checks.specs.Checks.{when, or_else, first_refusal}
-use Rattle.checks.specs.Planning.{range_checks, plain_checks, lengths_out}
-use Rattle.checks.specs.Stages.{ended}
-use Rattle.checks.proofs.CheckLaws.{first_append}
-use Rattle.checks.proofs.StageLaws.{passed_none}
-use Rattle.checks.proofs.PlanningLaws.{in_ranges, stopped, last_stage}
+use Rattle.checks.proofs.PlanningLaws.{in_ranges}
 use Rattle.checks.proofs.check.plain_front.Goals as goal
-use Rattle.checks.proofs.check.plain_front.Goals.{Start}
-
--- the checks are 1 to 3, and 5
-parts : (c : Start) →
-    let a = c.args in
-    let five = lengths_out a.scans a.settings a.rates.now a.distortions.now in
-    first_refusal (plain_checks a.scans a.settings a.lawless a.rates.now a.distortions.now)
-    ≡ or_else (first_refusal (range_checks most_scans a.scans a.settings a.lawless)) (or_else (when five refusal.Lengths) none)
-parts c =
-    let a = c.args in
-    first_append (range_checks most_scans a.scans a.settings a.lawless)
-    (none ∷ when (lengths_out a.scans a.settings a.rates.now a.distortions.now) refusal.Lengths ∷ [])
-
-pub returns-in_default : goal.returns-in_default
-returns-in_default c =
-    let e : ended c.ranges-ranged.result ≡ some _ = ap ended c.in_default.is in
-    let r = c.ranges-ranged.ensures in
-    r ∙ sym (parts (goal.at.returns-in_default c).Start ∙ stopped _ _ (sym r ∙ e))
 
 pub count-cells-requires : goal.count-cells-requires
 count-cells-requires c =
     let a = c.args in
-    let p = passed_none c.ranges-ranged.ensures c.in-Passed.is in
-    let r = in_ranges most_scans a.scans a.settings a.lawless p in
+    let r = in_ranges most_scans a.scans a.settings a.lawless (sym c.in_ok-ranges.ensures) in
     (r.0.0, (r.0.1, r.1.1))
-
-pub returns : goal.returns
-returns c =
-    let p = passed_none c.ranges-ranged.ensures c.in-Passed.is in
-    let a = c.args in
-    last_stage refusal.Lengths {five = lengths_out a.scans a.settings a.rates.now a.distortions.now} (rw c.count-cells.ensures at c.wrong_lengths.ensures) c.unless.ensures (parts (goal.at.returns c).Start ∙ rw p refl)

@@ -1,12 +1,13 @@
 -- `checks::range::outside` meets its contract.
-use borrow.Author.Tests.{eq-eqb, ne_eqb}
+use Rattle.std.proofs.Common.{arith}
+use Rattle.std.proofs.lemmas.Grind.{common_steps}
 use Rattle.checks.specs.Checks.{zero_or_over}
 use Rattle.checks.proofs.range.outside.Goals as goal
 
 pub returns-then-x-eq0 : goal.returns-then-x-eq0
 unfolding zero_or_over
-returns-then-x-eq0 c = simp (eq-eqb _ _ c.if-x-eq0.true)
+returns-then-x-eq0 c = grind (arith, common_steps)
 
-pub returns : goal.returns
+pub returns-else-x-eq0 : goal.returns-else-x-eq0
 unfolding zero_or_over
-returns c = simp (ne_eqb _ _ c.if-x-eq0.false)
+returns-else-x-eq0 c = grind (arith, common_steps)

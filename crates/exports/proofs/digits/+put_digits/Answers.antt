@@ -4,22 +4,10 @@ use Rattle.exports.proofs.DecimalLaws.{width_one, width_more}
 use Rattle.exports.proofs.PutLaws.{put_one, put_last}
 use Rattle.exports.proofs.digits.+put_digits.Goals as goal
 
-pub bounds-out-at : goal.bounds-out-at
-bounds-out-at t c = omega (arith, width_one c.args.x (omega arith))
-
 pub returns-then-x-lt10 : goal.returns-then-x-lt10
 returns-then-x-lt10 t c =
     let a = c.args in
     (omega (arith, width_one a.x (omega arith)), put_one a.out.now a.at a.x (omega arith))
-
-pub put_digits-last-requires : goal.put_digits-last-requires
-put_digits-last-requires t c = omega (arith, width_more c.args.x (omega arith))
-
-pub bounds-out-last : goal.bounds-out-last
-bounds-out-last t c = omega (arith, width_more c.args.x (omega arith), c.put_digits-last.ensures.0)
-
-pub overflow_add-result-2 : goal.overflow_add-result-2
-overflow_add-result-2 t c = omega (arith, width_more c.args.x (omega arith), c.put_digits-last.ensures.0)
 
 pub returns : goal.returns
 returns t c =

@@ -1,57 +1,59 @@
 -- `exports::export::measure` meets its contract: line after line.
+use Rattle.std.proofs.Common.{◌≡◌, ℕ, ◌+◌, ◌<◌, length, get_or, ap}
 use native.Mathlib.Omega.{arith}
+use Rattle.std.proofs.lemmas.List.{length_push}
+use Rattle.std.proofs.lemmas.Slice.Zip.{zip_turn, zip_end}
 use Rattle.tables.proofs.CellLaws.{cells_small}
-use Rattle.exports.proofs.TextLaws.{at_first, place_is, at_next, at_end}
-use Rattle.exports.proofs.PlaceLaws.{placed}
-use Rattle.exports.proofs.ExportLaws.{export_short}
+use Rattle.exports.specs.Export.{cell_line}
+use Rattle.exports.proofs.TextLaws.{at_first, at_next, at_end}
+use Rattle.exports.proofs.ExportLaws.{export_short, cell_given}
 use Rattle.exports.proofs.export.measure.Goals as goal
+use Rattle.exports.proofs.export.measure.Goals.{In-Some, Joined-line_of, in-Some-line_of, in_default}
 
-pub loop-c-init : goal.loop-c-init
-loop-c-init c = at_first
+pub loop-rate-init : goal.loop-rate-init
+loop-rate-init c = ((tt, tt), (tt, at_first))
 
-pub offset_bounds-rates-c : goal.offset_bounds-rates-c
-offset_bounds-rates-c c = omega arith
+-- the cell that this turn is at
+turn : (c : In-Some) → let n = length c.loop-rate.yielded in (n < length c.args.rates.now) × (n < length c.args.distortions.now)
+    × ((d : ℕ) → c.in-Some.rate.now ≡ get_or c.args.rates.now n d) × ((d : ℕ) → c.in-Some.distortion.now ≡ get_or c.args.distortions.now n d)
+turn c =
+    let a = c.args in
+    zip_turn a.rates.now a.distortions.now c.loop-rate.yielded c.into_iter-rate-iterator.result _ c.next.new.self _ (cc) (cc) c.loop-rate.yielded_by (c.in-Some.rate, c.in-Some.distortion) c.in-Some.is
+    c.next.ensures.steps
 
-pub bounds-rates-c : goal.bounds-rates-c
-bounds-rates-c c = omega arith
-
-pub offset_bounds-distortions-c : goal.offset_bounds-distortions-c
-offset_bounds-distortions-c c = omega arith
-
-pub bounds-distortions-c : goal.bounds-distortions-c
-bounds-distortions-c c = omega (arith, c.requires.rates_long, c.requires.distortions_long)
-
-pub cell_length-total-requires : goal.cell_length-total-requires
-cell_length-total-requires c =
-    let x = c.requires in
-    let l = c.loop-c in
-    (placed x (place_is x.some_settings l.invariant) (omega (arith, x.rates_long)), x.legal l.c (omega arith))
+pub line_of-requires : goal.line_of-requires
+line_of-requires c = let t = turn (goal.at.line_of-requires c).In-Some in cell_given c.requires c.loop-rate.invariant.1.1 t.0 (t.2 0) (t.3 0)
 
 pub overflow_add-total : goal.overflow_add-total
 overflow_add-total c =
     let x = c.requires in
-    let m = at_next c.loop-c.invariant (omega (arith, x.rates_long)) in
-    omega (arith, m.inside, export_short x, cells_small x.scans x.settings, c.cell_length-total.ensures.0)
+    let t = turn (goal.at.overflow_add-total c).In-Some in
+    let m = at_next c.loop-rate.invariant.1.1 (omega (arith, x.rates_long, t.0)) (t.2 0) (t.3 0) in
+    omega (arith, m.inside, export_short x, cells_small x.scans x.settings, ap length c.in-Some-line_of.ensures, c.len-total.ensures.0)
 
 pub next-p-requires : goal.next-p-requires
 next-p-requires c =
-    let x = c.requires in
-    let h = placed x (place_is x.some_settings c.loop-c.invariant) (omega (arith, x.rates_long)) in
-    omega (arith, h)
+    let t = turn (goal.at.next-p-requires c).In-Some in
+    let h = cell_given c.requires c.loop-rate.invariant.1.1 t.0 (t.2 0) (t.3 0) in
+    omega (arith, h.0)
 
-pub overflow_step-c : goal.overflow_step-c
-overflow_step-c c = omega arith
+-- with the line of this cell
+added : (c : Joined-line_of) → c.match-line_of.total ≡ c.loop-rate.total + length (cell_line c.loop-rate.p c.in-Some.rate.now c.in-Some.distortion.now)
+added c = elim c.match-line_of.branch [
+  | in-Some-line_of w ↦ omega (arith, w.total-is, w.len-total.ensures.0, ap length w.in-Some-line_of.ensures)
+  | in_default w ↦ omega (arith, w.total-is, ap length w.in_default.ensures)
+]
 
-pub loop-c-smaller : goal.loop-c-smaller
-loop-c-smaller c = omega arith
-
-pub loop-c-preserved : goal.loop-c-preserved
-loop-c-preserved c =
-    let x = c.requires in
-    rw (c.next-p.ensures, c.cell_length-total.ensures.0) (at_next c.loop-c.invariant (omega (arith, x.rates_long)))
+pub loop-rate-preserved : goal.loop-rate-preserved
+loop-rate-preserved c =
+    let t = turn (goal.at.loop-rate-preserved c).In-Some in
+    let e = added (goal.at.loop-rate-preserved c).Joined-line_of in
+    ((tt, tt), (tt, rw (c.next-p.ensures, e, length_push c.loop-rate.yielded (c.in-Some.rate, c.in-Some.distortion)) (at_next c.loop-rate.invariant.1.1 (omega (arith, c.requires.rates_long, t.0)) (t.2 0) (t.3 0))))
 
 pub returns : goal.returns
 returns c =
     let x = c.requires in
-    let e = at_end c.loop-c.invariant (omega (arith, x.rates_long)) in
+    let a = c.args in
+    let n = zip_end a.rates.now a.distortions.now c.loop-rate.yielded c.into_iter-rate-iterator.result _ c.next.new.self _ (cc) (cc) c.loop-rate.yielded_by c.in-None.is c.next.ensures.steps in
+    let e = at_end c.loop-rate.invariant.1.1 (omega (arith, x.rates_long, x.distortions_long, n)) in
     (e, omega (arith, export_short x))

@@ -1,11 +1,7 @@
 -- `fits::step::step` meets its contract. The loop's invariant: the rows before p are taken.
-use Prim.Native.Nat.{◌-◌, ◌≤◌}
 use Rattle.tables.specs.Law.{law_of, Follows}
 use Rattle.fits.specs.Reach.{ScanTaken}
 use Rattle.fits.proofs.step.step.Given as goal
 
 abbrev pub invariant-loop-p : goal.invariant-loop-p
-invariant-loop-p l = (l.p ≤ l.rows) × ScanTaken (Follows (law_of l.law) l.scan) l.rates l.settings l.at l.p l.least l.next
-
-abbrev pub decreases-loop-p : goal.decreases-loop-p
-decreases-loop-p l = l.rows - l.p
+invariant-loop-p l = ScanTaken (Follows (law_of l.law) l.scan) l.rates l.settings l.at l.p l.least l.next

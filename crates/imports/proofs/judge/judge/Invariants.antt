@@ -1,11 +1,9 @@
--- `imports::judge::judge` meets its contract: what is found from line k on is what is found from the first on.
-use Prim.Native.Nat.{◌-◌}
-use lib.ListN.{length}
+-- `imports::judge::judge` meets its contract: what is found in the lines that are left is what is found in all.
+use Rattle.imports.specs.Left.{said_left}
 use Rattle.imports.proofs.JudgeLaws.{JudgedSoFar}
 use Rattle.imports.proofs.judge.judge.Given as goal
 
-abbrev pub invariant-loop-at : goal.invariant-loop-at
-invariant-loop-at l = JudgedSoFar l.scans l.settings l.text l.initial.scratch l.scratch l.k l.at
-
-abbrev pub decreases-loop-at : goal.decreases-loop-at
-decreases-loop-at l = length l.text - l.at
+abbrev pub invariant-loop-line : goal.invariant-loop-line
+invariant-loop-line l =
+    (goal.iterator-loop-line).can_next l.line-iterator × ((goal.iterator-loop-line).is_finite l.line-iterator
+    × JudgedSoFar l.size.scans l.size.settings l.text l.initial.scratch l.scratch l.k (said_left l.line-iterator))

@@ -1,11 +1,9 @@
--- `imports::write::write` meets its contract.
-use Prim.Native.Nat.{◌-◌}
-use lib.ListN.{length}
+-- `imports::write::write` meets its contract: what the lines that are left make of the tables is what all make of them.
+use Rattle.imports.specs.Left.{said_left}
 use Rattle.imports.proofs.WriteLaws.{WrittenSoFar}
 use Rattle.imports.proofs.write.write.Given as goal
 
-abbrev pub invariant-loop-at : goal.invariant-loop-at
-invariant-loop-at l = WrittenSoFar l.scans l.settings l.text l.initial.rates l.initial.distortions l.rates l.distortions l.at
-
-abbrev pub decreases-loop-at : goal.decreases-loop-at
-decreases-loop-at l = length l.text - l.at
+abbrev pub invariant-loop-line : goal.invariant-loop-line
+invariant-loop-line l =
+    (goal.iterator-loop-line).can_next l.line-iterator × ((goal.iterator-loop-line).is_finite l.line-iterator
+    × WrittenSoFar l.size.scans l.size.settings l.text l.initial.rates l.initial.distortions l.rates l.distortions (said_left l.line-iterator))

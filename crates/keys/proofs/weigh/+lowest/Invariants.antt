@@ -2,4 +2,4 @@
 use Rattle.keys.proofs.weigh.+lowest.Given as goal
 
 abbrev pub decreases-lowest : goal.decreases-lowest
-decreases-lowest l = l.n
+decreases-lowest l = l.at.n

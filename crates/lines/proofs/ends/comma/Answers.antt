@@ -1,31 +1,29 @@
--- `lines::ends::comma` meets its contract: no comma stands before the place.
-use mathlib.Core.Logic.{◌≢◌}
-use mathlib.Core.List.{List}
-use mathlib.Core.Path.{◌≡◌}
-use Prim.Native.Nat.{ℕ, ◌+◌, ◌≤◌, ◌<◌}
-use native.Mathlib.Decide.{ℕ_discrete}
-use native.Mathlib.Omega.{arith}
-use lib.ListN.{get_or}
+-- `lines::ends::comma` meets its contract: the first comma of the part that is searched.
+use Rattle.std.proofs.Common.{◌≡◌, ◌≢◌, ◌<◌, length, ◌∙◌, rules, tests}
+use Rattle.std.specs.List.{AllWithin, HoldsAt}
+use Rattle.std.specs.Option.{MatchOption}
+use Rattle.std.proofs.Math.Seq.{slice}
+use Rattle.std.proofs.lemmas.Iterator.{IsFirst-from_position, YieldsList-from_slice}
+use Rattle.lines.proofs.LineLaws.{part}
+use Rattle.lines.proofs.FieldLaws.{comma_none, comma_some}
 use Rattle.lines.proofs.ends.comma.Goals as goal
+use Rattle.lines.proofs.ends.comma.Goals.{After-position}
 
-pub loop-i-init : goal.loop-i-init
-loop-i-init c = (omega arith, (c.requires.0, λ j a b. absurd (omega arith)))
+-- what the search found
+first : (c : After-position) → let s = slice c.args.from c.args.end c.args.text.now in
+    MatchOption c.position.result (AllWithin (λ x. x ≢ 44) s 0 (length s)) (λ i. (i < length s) × HoldsAt (λ x. x ≡ 44) s i × AllWithin (λ x. x ≢ 44) s 0 i)
+first c =
+    let a = c.args in
+    IsFirst-from_position _ _ _ (λ x. x ≡ 44) (λ x. x ≢ 44) c.position.ensures.ran
+    (YieldsList-from_slice _ (c.iter.ensures.rest ∙ part a.text.now a.from a.end c.requires.0)) (λ x q k. search (rules, tests)) (λ x q k. search (rules, tests))
 
-pub returns-then-text-i-eq-COMMA : goal.returns-then-text-i-eq-COMMA
-returns-then-text-i-eq-COMMA c = let l = c.loop-i.invariant in record { order = l.0; inside = l.1.0; before = l.1.1; there = λ h. c.if-text-i-eq-COMMA.true }
-
--- one byte more, which is none
-one_more : (text : List ℕ) {from i : ℕ} → ((j : ℕ) → from ≤ j → j < i → get_or text j 0 ≢ 44) → get_or text i 0 ≢ 44 → (j : ℕ) → from ≤ j → j < i + 1 → get_or text j 0 ≢ 44
-one_more text {from} {i} none here j a b = at (ℕ_discrete j i)
-  where
-    at : Dec (j ≡ i) → get_or text j 0 ≢ 44
-    at (yes e) = rw e here
-    at (no n) = none j a (omega arith)
-
-pub loop-i-preserved : goal.loop-i-preserved
-loop-i-preserved c = let l = c.loop-i.invariant in (omega (arith, l.0), (omega arith, one_more c.args.text.now l.1.1 c.if-text-i-eq-COMMA.false))
+pub returns-in_err-at : goal.returns-in_err-at
+returns-in_err-at c =
+    let a = c.args in
+    rw c.from_residual.ensures (comma_none a.text.now a.end c.requires.1 a.from c.requires.0 (rw c.in_err-at.was at (first (goal.at.returns-in_err-at c).After-position)))
 
 pub returns : goal.returns
 returns c =
-    let l = c.loop-i.invariant in
-    record { order = l.0; inside = l.1.0; before = l.1.1; there = λ h. absurd (omega (arith, c.loop-i-test.false)) }
+    let a = c.args in
+    let f = rw c.in_ok-at.was at (first (goal.at.returns c).After-position) in
+    comma_some a.text.now a.end c.requires.1 a.from c.requires.0 c.in_ok-at.at f.0 f.1 f.2

@@ -1,10 +1,7 @@
--- `lines::field::number_of` meets its contract: v is the number of the digits before i.
-use Prim.Native.Nat.{◌-◌, ◌≤◌}
-use Rattle.lines.proofs.ContentLaws.{DigitsSoFar, most}
+-- `lines::field::number_of` meets its contract: v is the number of the digits so far.
+use lib.ListN.{take}
+use Rattle.lines.proofs.ContentLaws.{Writes}
 use Rattle.lines.proofs.field.number_of.Given as goal
 
-abbrev pub invariant-loop-i : goal.invariant-loop-i
-invariant-loop-i l = DigitsSoFar l.from l.to l.text l.v l.i × (l.v ≤ most (l.i - l.from))
-
-abbrev pub decreases-loop-i : goal.decreases-loop-i
-decreases-loop-i l = l.to - l.i
+abbrev pub invariant-loop-c : goal.invariant-loop-c
+invariant-loop-c l = Writes (take l.c-index l.content) l.v

@@ -1,58 +1,35 @@
 -- `lines::says::says` meets its contract: five fields, and what each holds.
-use Prim.Native.Nat.{suc}
-use native.Mathlib.Numerals.{add-one}
-use native.Mathlib.Omega.{arith}
-use lib.Seq.{slice}
-use Rattle.lines.specs.Parts.{FiveEnds}
-use Rattle.lines.proofs.SaidLaws.{five_read, other_says}
-use borrow.Author.Tests.{not-true, not-false}
+use mathlib.Core.Path.{refl}
+use Rattle.lines.proofs.FieldLaws.{fields_at}
+use Rattle.lines.proofs.SaidLaws.{no_scan, five_read, other_says}
 use Rattle.lines.proofs.says.says.Goals as goal
-use Rattle.lines.proofs.says.says.Goals.{Else-not-e}
 
--- where each field ends
-five : (c : Else-not-e) → FiveEnds c.args.text.now c.args.from c.args.end c.part_fields-e.result
-five c = c.part_fields-e.ensures.five (not-false _ c.if-not-e.false)
+pub returns-in_err-e : goal.returns-in_err-e
+returns-in_err-e c = rw c.from_residual.ensures (other_says _ c.in_err-e.ensures)
 
-pub returns-then-not-e : goal.returns-then-not-e
-returns-then-not-e c = other_says _ (c.part_fields-e.ensures.not_five (not-true _ c.if-not-e.true))
+pub returns-in_err-scan : goal.returns-in_err-scan
+returns-in_err-scan c = rw c.from_residual-in_err-scan.ensures (no_scan _ (fields_at c.in_ok-e.ensures) c.in_err-scan.ensures)
 
-pub field-first-requires : goal.field-first-requires
-field-first-requires c = let o = (five (goal.at.field-first-requires c).Else-not-e).order in (o.0, omega (arith, o, c.requires.1))
+pub returns-in_err-before : goal.returns-in_err-before
+returns-in_err-before c =
+    rw c.from_residual-in_err-before.ensures
+    (five_read _ (fields_at c.in_ok-e.ensures) c.in_ok-scan.ensures c.in_err-before.ensures refl refl refl)
 
-pub overflow_add-e : goal.overflow_add-e
-overflow_add-e c = omega (arith, (five (goal.at.overflow_add-e c).Else-not-e).order, c.requires.1)
+pub returns-in_err-setting : goal.returns-in_err-setting
+returns-in_err-setting c =
+    rw c.from_residual-in_err-setting.ensures
+    (five_read _ (fields_at c.in_ok-e.ensures) c.in_ok-scan.ensures c.in_ok-before.ensures c.in_err-setting.ensures refl refl)
 
-pub previous-second-requires : goal.previous-second-requires
-previous-second-requires c = let o = (five (goal.at.previous-second-requires c).Else-not-e).order in (omega (arith, o), omega (arith, o, c.requires.1))
+pub returns-in_err-rate : goal.returns-in_err-rate
+returns-in_err-rate c =
+    rw c.from_residual-in_err-rate.ensures
+    (five_read _ (fields_at c.in_ok-e.ensures) c.in_ok-scan.ensures c.in_ok-before.ensures c.in_ok-setting.ensures c.in_err-rate.ensures refl)
 
-pub overflow_add-e-2 : goal.overflow_add-e-2
-overflow_add-e-2 c = omega (arith, (five (goal.at.overflow_add-e-2 c).Else-not-e).order, c.requires.1)
-
-pub field-third-requires : goal.field-third-requires
-field-third-requires c = let o = (five (goal.at.field-third-requires c).Else-not-e).order in (omega (arith, o), omega (arith, o, c.requires.1))
-
-pub overflow_add-e-3 : goal.overflow_add-e-3
-overflow_add-e-3 c = omega (arith, (five (goal.at.overflow_add-e-3 c).Else-not-e).order, c.requires.1)
-
-pub field-fourth-requires : goal.field-fourth-requires
-field-fourth-requires c = let o = (five (goal.at.field-fourth-requires c).Else-not-e).order in (omega (arith, o), omega (arith, o, c.requires.1))
-
-pub overflow_add-e-4 : goal.overflow_add-e-4
-overflow_add-e-4 c = omega (arith, (five (goal.at.overflow_add-e-4 c).Else-not-e).order, c.requires.1)
-
-pub field-fifth-requires : goal.field-fifth-requires
-field-fifth-requires c = let o = (five (goal.at.field-fifth-requires c).Else-not-e).order in (omega (arith, o), c.requires.1)
+pub returns-in_err-distortion : goal.returns-in_err-distortion
+returns-in_err-distortion c =
+    rw c.from_residual-in_err-distortion.ensures
+    (five_read _ (fields_at c.in_ok-e.ensures) c.in_ok-scan.ensures c.in_ok-before.ensures c.in_ok-setting.ensures c.in_ok-rate.ensures c.in_err-distortion.ensures)
 
 pub returns : goal.returns
 returns c =
-    let a = c.args in
-    let t = a.text.now in
-    let e = c.part_fields-e.result in
-    five_read (slice a.from a.end t) (slice a.from e.first t) (slice (suc e.first) e.second t) (slice (suc e.second) e.third t)
-    (slice (suc e.third) e.fourth t) (slice (suc e.fourth) a.end t) (five (goal.at.returns c).Else-not-e).fields_are
-    c.field-first.ensures
-    (rw add-one at c.previous-second.ensures)
-    (rw add-one at c.field-third.ensures)
-    (rw add-one at c.field-fourth.ensures)
-    (rw add-one at c.field-fifth.ensures)
-    c.together.ensures
+    five_read _ (fields_at c.in_ok-e.ensures) c.in_ok-scan.ensures c.in_ok-before.ensures c.in_ok-setting.ensures c.in_ok-rate.ensures c.in_ok-distortion.ensures

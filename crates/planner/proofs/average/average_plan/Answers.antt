@@ -1,10 +1,21 @@
 -- `planner::average::average_plan` meets its contract: the checks, and the call where they pass.
 use mathlib.Core.Path.{refl}
-use Rattle.planner.proofs.PromiseLaws.{checked_sound, checked_refused}
+use mathlib.Core.Option.{none}
+use Rattle.std.proofs.lemmas.Result.{err_from_is_err_and}
+use Rattle.checks.proofs.GivenLaws.{of_checked, of_lent}
+use Rattle.checks.specs.Planning.{Sound}
+use Rattle.promise.specs.Promise.{AveragePromise}
+use Rattle.planner.proofs.PromiseLaws.{checked_refused}
 use Rattle.planner.proofs.average.average_plan.Goals as goal
 
+pub returns-in_err-t : goal.returns-in_err-t
+returns-in_err-t c = let p = err_from_is_err_and c.from_residual.result c.from_residual.ensures.1 in rw (p.1, p.2) (checked_refused refl c.in_err-t.ensures.checked)
+
 pub sound_average-requires : goal.sound_average-requires
-sound_average-requires c = checked_sound refl c.check-checked.ensures c.in_default.is
+sound_average-requires c = of_checked (λ q. Sound none q) c.in_ok-t.ensures.same c.in_ok-t.ensures.checked
 
 pub returns : goal.returns
-returns c = checked_refused refl c.check-checked.ensures c.in-Stopped.is
+returns c =
+    let a = c.args in
+    let r = c.sound_average in
+    of_lent (λ q. AveragePromise q a.budget a.plan.now a.scratch.now r.result r.new.plan r.new.scratch) c.in_ok-t.ensures.same r.ensures

@@ -1,29 +1,27 @@
 -- `planner::multiplier::sound_multiplier` meets its contract.
 use Rattle.criteria.specs.Choice.{Problem}
-use Rattle.tables.specs.Tables.{table, planning}
-use native.Mathlib.Omega.{arith}
+use Rattle.checks.specs.Given.{planning_in}
 use Rattle.laws.proofs.Tests.{never}
 use Rattle.checks.proofs.PlanningLaws.{sound_fit, sound_plan, sound_further, multiplier_in}
-use Rattle.seek.proofs.SeekLaws.{fit_framed}
+use Rattle.seek.proofs.SeekLaws.{fit_framed, room_framed}
 use Rattle.planner.proofs.PromiseLaws.{values_are, says_none_allowed, says_planned}
 use Rattle.planner.proofs.multiplier.sound_multiplier.Goals as goal
 use Rattle.planner.proofs.multiplier.sound_multiplier.Goals.{Start}
 
 abbrev problem : Start → Problem
-problem s = planning (table s.args.scans s.args.settings s.args.law s.args.rates.now s.args.distortions.now s.args.weights.now)
+problem s = planning_in s.args.t.now
 
 pub multiplier_pass-requires : goal.multiplier_pass-requires
-multiplier_pass-requires c =
-    record {
-      fit = sound_fit c.requires;
-      n_le_most_term = omega (arith, multiplier_in {n = c.args.n} {d = c.args.d} (sound_further c.requires));
-    }
+multiplier_pass-requires c = (sound_fit c.requires).room
+
+pub invariant_of-multiplier_pass : goal.invariant_of-multiplier_pass
+invariant_of-multiplier_pass c = record { in_range = multiplier_in {n = c.args.n} {d = c.args.d} (sound_further c.requires) }
 
 pub finish-requires : goal.finish-requires
 finish-requires c =
     let p = c.multiplier_pass.ensures in
     record {
-      fit = (fit_framed (sound_fit c.requires) p.framed, sound_plan c.requires);
+      room = (room_framed (sound_fit c.requires).room p.framed, sound_plan c.requires);
       fact = (p.some c.if-multiplier_pass.true).one;
     }
 

@@ -1,6 +1,6 @@
 -- `search::halving::least_ceiling` meets its contract: something fits under `least`, and nothing under what is below `low`.
 use native.Mathlib.Omega.{arith}
-use Rattle.seek.proofs.SeekLaws.{fit_framed}
+use Rattle.seek.proofs.SeekLaws.{room_framed}
 use Rattle.search.proofs.HalvingLaws.{halved_start, halved_down, halved_up, halved_end}
 use Rattle.search.proofs.halving.least_ceiling.Goals as goal
 
@@ -11,7 +11,7 @@ pub overflow_add-middle : goal.overflow_add-middle
 overflow_add-middle c = omega (arith, c.ranges.high)
 
 pub some_fit-requires : goal.some_fit-requires
-some_fit-requires c = fit_framed c.requires.fit c.loop-low.invariant.1.framed
+some_fit-requires c = room_framed c.requires.room c.loop-low.invariant.1.framed
 
 pub loop-low-smaller-then-some_fit : goal.loop-low-smaller-then-some_fit
 loop-low-smaller-then-some_fit c = omega arith

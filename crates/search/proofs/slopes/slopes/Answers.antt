@@ -3,15 +3,16 @@ use mathlib.Core.Path.{refl}
 use Prim.Native.Nat.{◌-◌, ◌<◌}
 use Rattle.tables.specs.Law.{law_of}
 use Rattle.criteria.specs.Choice.{Problem}
-use Rattle.tables.specs.Tables.{table, planning}
+use Rattle.checks.specs.Given.{planning_in}
+use Rattle.checks.proofs.GivenLaws.{fit_in}
 use Rattle.search.specs.Search.{Bracketed}
-use Rattle.seek.proofs.SeekLaws.{fit_framed, framed_on, framed_none, sums_small}
-use Rattle.search.proofs.SlopeLaws.{pass_finds, bracket_falls, bracket_rises, lo_allowed, slope_small, slope_ends, narrowed_more, totals_cost_small}
+use Rattle.seek.proofs.SeekLaws.{room_framed, framed_on, framed_none, sums_small}
+use Rattle.search.proofs.SlopeLaws.{pass_finds, bracket_falls, bracket_rises, bracket_small, lo_allowed, slope_ends, narrowed_more, totals_cost_small}
 use Rattle.search.proofs.slopes.slopes.Goals as goal
 use Rattle.search.proofs.slopes.slopes.Goals.{After-narrowed-at, Start}
 
 abbrev problem : Start → Problem
-problem s = planning (table s.args.scans s.args.settings s.args.law s.args.rates.now s.args.distortions.now s.args.weights.now)
+problem s = planning_in s.args.t.now
 
 -- the next bracket, and that it is narrower
 next : (c : After-narrowed-at) → Bracketed
@@ -27,30 +28,30 @@ pub loop-at-init : goal.loop-at-init
 loop-at-init c = (c.requires.bracketed, framed_none _)
 
 pub slope_of-s-requires : goal.slope_of-s-requires
-slope_of-s-requires c = (bracket_falls c.loop-at.invariant.0, bracket_rises c.loop-at.invariant.0)
+slope_of-s-requires c =
+    let b = c.loop-at.invariant.0 in
+    record {
+      order = (bracket_falls b, bracket_rises b);
+      small = bracket_small b (sums_small (law_of c.args.t.now.law) (fit_in c.args.t.now c.requires.room));
+    }
 
 pub multiplier_pass-requires : goal.multiplier_pass-requires
-multiplier_pass-requires c =
-    let i = c.loop-at.invariant in
-    record {
-      fit = fit_framed c.requires.fit i.1;
-      n_le_most_term = slope_small i.0 (sums_small (law_of c.args.law) c.requires.fit) c.slope_of-s.ensures;
-    }
+multiplier_pass-requires c = room_framed c.requires.room c.loop-at.invariant.1
 
 pub total_up-plan-requires : goal.total_up-plan-requires
 total_up-plan-requires c =
     let i = c.loop-at.invariant in
     let p = c.multiplier_pass.ensures in
     record {
-      fit = fit_framed (fit_framed c.requires.fit i.1) p.framed;
+      room = room_framed (room_framed c.requires.room i.1) p.framed;
       fact = (pass_finds {P = problem (goal.at.total_up-plan-requires c).Start} p i.0.lo_plan (lo_allowed i.0)).one;
     }
 
 pub ties-requires : goal.ties-requires
 ties-requires c =
     let i = c.loop-at.invariant in
-    let small = sums_small (law_of c.args.law) c.requires.fit in
-    let l = slope_small i.0 small c.slope_of-s.ensures in (
+    let small = sums_small (law_of c.args.t.now.law) (fit_in c.args.t.now c.requires.room) in
+    let l = c.slope_of-s.result.in_range in (
       totals_cost_small {P = problem (goal.at.ties-requires c).Start} small c.total_up-plan.ensures (pass_finds {P = problem (goal.at.ties-requires c).Start} c.multiplier_pass.ensures i.0.lo_plan (lo_allowed i.0)).one l,
       totals_cost_small {P = problem (goal.at.ties-requires c).Start} small i.0.lo_totals (lo_allowed i.0) l,
     )
@@ -62,7 +63,7 @@ pub returns-then-ties : goal.returns-then-ties
 returns-then-ties c =
     let i = c.loop-at.invariant in
     let p = c.multiplier_pass.ensures in
-    let l = slope_small i.0 (sums_small (law_of c.args.law) c.requires.fit) c.slope_of-s.ensures in
+    let l = c.slope_of-s.result.in_range in
     record {
       ended = slope_ends i.0 c.slope_of-s.ensures (pass_finds {P = problem (goal.at.returns-then-ties c).Start} p i.0.lo_plan (lo_allowed i.0)) c.total_up-plan.ensures c.ties.ensures c.if-ties.true;
       small_n = l.0;

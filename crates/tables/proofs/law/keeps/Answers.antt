@@ -1,20 +1,21 @@
 -- `tables::law::keeps` meets its contract, a number at a time.
-use Rattle.tables.proofs.LawLaws.{by_law, keeps_any, breaks_within, keeps_within, keeps_coarser, no_law}
+use native.Mathlib.Omega.{arith}
+use Rattle.std.proofs.lemmas.Bool.Decides.{nat_tests}
+use Rattle.tables.specs.Law.{allows}
 use Rattle.tables.proofs.law.keeps.Goals as goal
 
-pub returns-then-law-eq0 : goal.returns-then-law-eq0
-returns-then-law-eq0 c = by_law _ _ _ (keeps_any _ _ _ c.if-law-eq0.true)
+pub returns-in-0 : goal.returns-in-0
+unfolding allows
+returns-in-0 c = grind (arith, nat_tests)
 
-pub returns-then-above-gt2 : goal.returns-then-above-gt2
-returns-then-above-gt2 c = by_law _ _ _ (breaks_within _ _ _ c.if-law-eq1.true (rw c.above.ensures at c.if-above-gt2.true))
+pub returns-in-1 : goal.returns-in-1
+unfolding allows
+returns-in-1 c = rw c.in-1.is (grind (arith, nat_tests))
 
-pub returns-then-law-eq1 : goal.returns-then-law-eq1
-returns-then-law-eq1 c =
-    rw c.above-then-law-eq1.ensures
-    (by_law _ _ _ (keeps_within _ _ _ c.if-law-eq1.true (rw c.above.ensures at c.if-above-gt2.false)))
+pub returns-in-2 : goal.returns-in-2
+unfolding allows
+returns-in-2 c = rw c.in-2.is (grind (arith, nat_tests))
 
-pub returns-then-law-eq2 : goal.returns-then-law-eq2
-returns-then-law-eq2 c = rw c.above-then-law-eq2.ensures (by_law _ _ _ (keeps_coarser _ _ _ c.if-law-eq2.true))
-
-pub returns : goal.returns
-returns c = by_law _ _ _ (no_law _ _ _ c.if-law-eq0.false c.if-law-eq1.false c.if-law-eq2.false)
+pub returns-in_default : goal.returns-in_default
+unfolding allows
+returns-in_default c = grind (arith, nat_tests)

@@ -1,139 +1,93 @@
 -- `trellis::pass::pass` meets its contract: it is made of steps, and scan 0 answers.
-use native.Mathlib.Omega.{arith}
-use mathlib.Core.Path.{◌≡◌, refl, ◌∙◌}
-use Prim.Native.Nat.{◌-◌}
-use lib.ListN.{get_or-replicate}
-use Rattle.tables.specs.Tables.{Table, table}
-use Rattle.tables.proofs.CellLaws.{square_small, squares_small}
+use Rattle.std.proofs.Common.{refl, ◌≡◌, ◌-◌, ◌<◌, length, arith}
+use Rattle.std.proofs.lemmas.List.{get_or-replicate}
+use Rattle.checks.specs.Fit.{Fit}
+use Rattle.checks.specs.Given.{table_in}
+use Rattle.checks.proofs.GivenLaws.{fit_in}
 use Rattle.trellis.proofs.ChoiceLaws.{need_more}
 use Rattle.trellis.specs.Made.{unstepped, stepped}
-use Rattle.trellis.proofs.PassLaws.{ready_later, ready_first, square_fits, first_fits, sixteen_zero}
+use Rattle.trellis.proofs.PassLaws.{sixteen_zero, square_fits, first_fits, square_rates, square_counts, row_rates, row_counts, ready_later, ready_first}
 use Rattle.trellis.proofs.MadeLaws.{stepped_long, stepped_done, pass_made}
 use Rattle.trellis.proofs.pass.pass.Goals as goal
 use Rattle.trellis.proofs.pass.pass.Goals.{Start}
 
--- the table that is passed over
-abbrev over : Start → Table
-over s = table s.args.scans s.args.settings s.args.law s.args.rates.now s.args.distortions.now s.args.weights.now
-
-pub overflow_mul-size : goal.overflow_mul-size
-overflow_mul-size c = omega (arith, square_small {Q = c.args.settings} c.requires.fit.settings)
+-- what the tables are known to be
+tables : (s : Start) → let t = s.args.t.now in Fit t.scans t.settings t.rates.now t.distortions.now t.weights.now (length s.args.scratch.now)
+tables s = fit_in s.args.t.now s.requires.room
 
 pub loop-i-init : goal.loop-i-init
-loop-i-init c = (
-  omega (arith, c.requires.fit.some_scans),
-  (refl, (sixteen_zero, (sixteen_zero, unstepped refl (λ p h. get_or-replicate 16 p 0 0 (omega (arith, c.requires.fit.settings)))))),
-)
+loop-i-init c = record {
+  keys_long = refl;
+  sixteen = (sixteen_zero, sixteen_zero);
+  steps = unstepped refl (λ p h. get_or-replicate 16 p 0 0 (omega (arith, c.args.t.now.sized.settings)));
+}
 
-pub overflow_mul-at : goal.overflow_mul-at
-overflow_mul-at c =
-    omega (arith, squares_small {i = c.loop-i.i - 1} {Q = c.args.settings} (omega (arith, c.requires.fit.scans)) c.requires.fit.settings)
+pub square_into-requires-clause-fits : goal.square_into-requires-clause-fits
+square_into-requires-clause-fits c =
+    (c.args.t.now.sized.settings, square_fits c.of_scan-cells.ensures (tables (goal.at.square_into-requires-clause-fits c).Start) (omega arith) (omega arith))
 
-pub overflow_add-at : goal.overflow_add-at
-overflow_add-at c =
-    omega (arith, c.requires.fit.settings, squares_small {i = c.loop-i.i - 1} {Q = c.args.settings} (omega (arith, c.requires.fit.scans)) c.requires.fit.settings)
+pub step-requires-clause-room : goal.step-requires-clause-room
+step-requires-clause-room c =
+    let t = c.args.t.now in
+    omega (arith, need_more t.scans t.settings (c.loop-i.i - 1) (omega arith), c.requires.room, stepped_long c.loop-i.invariant.steps)
 
-pub bounds-weights-i : goal.bounds-weights-i
-bounds-weights-i c = omega (arith, c.loop-i.invariant.0, c.requires.fit.weights_long)
-
-pub square_into-requires : goal.square_into-requires
-square_into-requires c =
-    let l = c.loop-i in record {
-      k_bound = (
-        c.requires.fit.settings,
-        square_fits (over (goal.at.square_into-requires c).Start) c.requires.fit l.i c.byte_to_cell-weight.result c.loop-i-test.true l.invariant.0 c.byte_to_cell-weight.ensures.0,
-      );
-      sixteen = (l.invariant.1.1.0, l.invariant.1.1.1.0);
-    }
-
-pub step-requires : goal.step-requires
-step-requires c =
-    let a = c.args in
+pub step-requires-clause-ready : goal.step-requires-clause-ready
+step-requires-clause-ready c =
+    let f = tables (goal.at.step-requires-clause-ready c).Start in
+    let r = c.args.rule in
     let l = c.loop-i in
-    let w = c.square_into in record {
-      settings_le_most_settings = (
-        c.requires.fit.settings,
-        (
-          omega (arith, l.invariant.0, c.requires.fit.scans),
-          (omega (arith, need_more a.scans a.settings l.i l.invariant.0, c.requires.fit.room, stepped_long l.invariant.1.1.1.1), l.invariant.1.0),
-        ),
-      );
-      light = c.requires.light;
-      by_index = λ p h.
-          ready_later (over (goal.at.step-requires c).Start) a.rule c.requires.fit c.requires.light l.i p w.new.square w.new.counts l.keys c.loop-i-test.true h w.ensures.by_index
-          (rw c.byte_to_cell-weight.ensures.0 at w.ensures.by_index_2) (stepped_done c.requires.fit c.requires.light l.invariant.1.1.1.1).row.capped;
-    }
+    let w = c.square_into in
+    let later : 0 < l.i - 1 = omega arith in
+    λ p h. ready_later (table_in c.args.t.now) r f r.light (l.i - 1) p w.new.square w.new.counts l.keys later h
+    (square_rates c.of_scan-cells.ensures r w.new.square later w.ensures.rates)
+    (square_counts c.of_scan-cells.ensures r w.new.counts later w.ensures.counts) (stepped_done f r.light l.invariant.steps).row.capped
 
 pub loop-i-preserved : goal.loop-i-preserved
 loop-i-preserved c =
+    let r = c.args.rule in
     let l = c.loop-i in
     let w = c.square_into in
-    let v = c.step.ensures in (
-      omega (arith, l.invariant.0),
-      (
-        v.keys_long,
-        (
-          w.ensures.sixteen_2.0,
-          (
-            w.ensures.sixteen_2.1,
-            stepped {i = l.i} {j = l.i - 1} (omega (arith, c.loop-i-test.true)) l.invariant.0 w.ensures.by_index
-                (rw c.byte_to_cell-weight.ensures.0 at w.ensures.by_index_2) v l.invariant.1.1.1.1,
-          ),
-        ),
-      ),
-    )
-
-pub bounds-weights-0 : goal.bounds-weights-0
-bounds-weights-0 c = omega (arith, c.requires.fit.some_scans, c.requires.fit.weights_long)
+    let later : 0 < l.i - 1 = omega arith in
+    record {
+      keys_long = c.step.ensures.keys_long;
+      sixteen = w.ensures.still_sixteen;
+      steps = stepped {i = l.i - 1} {j = l.i - 1 - 1} (omega arith) (omega arith) (square_rates c.of_scan-cells.ensures r w.new.square later w.ensures.rates)
+          (square_counts c.of_scan-cells.ensures r w.new.counts later w.ensures.counts) c.step.ensures l.invariant.steps;
+    }
 
 pub row_into-requires : goal.row_into-requires
-row_into-requires c =
-    record {
-      k_bound = (c.requires.fit.settings, first_fits (over (goal.at.row_into-requires c).Start) c.requires.fit c.byte_to_cell-first_weight.result c.byte_to_cell-first_weight.ensures.0);
-      row_len = (refl, refl);
-    }
+row_into-requires c = record { fits = (c.args.t.now.sized.settings, first_fits c.of_scan-first.ensures (tables (goal.at.row_into-requires c).Start) refl) }
 
-pub pick-best-requires : goal.pick-best-requires
-pick-best-requires c =
-    let l = c.loop-i in
-    let w = c.row_into in record {
-      lo_le_hi = (omega arith, omega (arith, c.requires.fit.settings));
-      light = c.requires.light;
-      ready = (
-        λ q h. ready_first (over (goal.at.pick-best-requires c).Start) c.args.rule c.requires.fit c.requires.light w.new.row w.new.counts l.keys w.ensures.by_index
-            (rw c.byte_to_cell-first_weight.ensures.0 at w.ensures.by_index_2) (stepped_done c.requires.fit c.requires.light l.invariant.1.1.1.1).row.capped q
-            (omega (arith, h, c.requires.fit.some_settings)),
-        refl,
-      );
-    }
+pub pick-best-requires-clause-ready : goal.pick-best-requires-clause-ready
+pick-best-requires-clause-ready c =
+    let f = tables (goal.at.pick-best-requires-clause-ready c).Start in
+    let r = c.args.rule in
+    let w = c.row_into in
+    ready_first (table_in c.args.t.now) r f r.light w.new.row w.new.counts c.loop-i.keys (row_rates c.of_scan-first.ensures r w.new.row refl w.ensures.rates)
+    (row_counts c.of_scan-first.ensures r w.new.counts refl w.ensures.counts) (stepped_done f r.light c.loop-i.invariant.steps).row.capped
 
-pub store-requires : goal.store-requires
-store-requires c =
-    let l = c.loop-i in record {
-      settings_le_most_settings = (c.requires.fit.settings, (omega arith, c.requires.fit.some_settings));
-      chosen_bound = (
-        omega (arith, c.pick-best.ensures.best_of.inside, c.requires.fit.settings),
-        omega (arith, need_more c.args.scans c.args.settings 0 c.requires.fit.some_scans, c.requires.fit.room, stepped_long l.invariant.1.1.1.1),
-      );
-    }
-
-pub shape_of-scratch : goal.shape_of-scratch
-shape_of-scratch c = c.store.ensures.long ∙ stepped_long c.loop-i.invariant.1.1.1.1
+pub store-requires-clause-chosen_bound : goal.store-requires-clause-chosen_bound
+store-requires-clause-chosen_bound c =
+    let t = c.args.t.now in (
+      omega (arith, c.pick-best.ensures.best_of.inside),
+      omega (arith, need_more t.scans t.settings 0 t.sized.some_scans, c.requires.room, stepped_long c.loop-i.invariant.steps),
+    )
 
 pub returns : goal.returns
 returns c =
+    let r = c.args.rule in
     let l = c.loop-i in
     let w = c.row_into in
     let v = c.pick-best in
-    let e : l.i ≡ 0 = omega (arith, c.loop-i-test.false) in
-    pass_made c.requires.fit c.requires.light (record {
+    let e : l.i - 1 ≡ 0 = omega arith in
+    pass_made (tables (goal.at.returns c).Start) r.light (record {
       keys = l.keys;
       scratch = l.scratch;
-      steps = rw e at l.invariant.1.1.1.1;
+      steps = rw e at l.invariant.steps;
       rates = w.new.row;
       distortions = w.new.counts;
-      rates_of = w.ensures.by_index;
-      distortions_of = rw c.byte_to_cell-first_weight.ensures.0 at w.ensures.by_index_2;
+      rates_of = row_rates c.of_scan-first.ensures r w.new.row refl w.ensures.rates;
+      distortions_of = row_counts c.of_scan-first.ensures r w.new.counts refl w.ensures.counts;
       least = v.result.key.0;
       first = v.result.first;
       best = v.ensures.best_of;

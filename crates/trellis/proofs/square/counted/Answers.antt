@@ -1,9 +1,5 @@
 -- `trellis::square::counted` meets its contract: what is weighed is 0 or a legal cell.
-use mathlib.Core.Path.{◌≡◌, ◌∙◌, ap}
-use mathlib.Core.Bool.{Bool, cond}
-use Prim.Native.Nat.{ℕ, ◌*◌}
-use native.Mathlib.Omega.{arith}
-use lib.Dec.{eqb}
+use Rattle.std.proofs.Common.{◌≡◌, ◌∙◌, ap, Bool, cond, ℕ, ◌*◌, nat_eq, arith}
 use Rattle.tables.specs.Limits.{forbidden}
 use Rattle.trellis.specs.Square.{shut_by, counted_of}
 use Rattle.trellis.proofs.ClosedLaws.{closed_tells, product_small}
@@ -16,7 +12,7 @@ weighed : (c : After-choose) →
     c.choose.result ≡ cond (shut_by a.ceiling a.rate a.plain) 0 a.plain
 weighed c =
     let a = c.args in
-    c.choose.ensures ∙ ap (λ (x : ℕ). cond (eqb x forbidden) 0 a.plain) c.closed.ensures
+    c.choose.ensures ∙ ap (λ (x : ℕ). cond (nat_eq x forbidden) 0 a.plain) c.closed.ensures
     ∙ ap (λ (t : Bool). cond t 0 a.plain) (closed_tells a.ceiling a.rate a.plain)
 
 pub overflow_mul-result : goal.overflow_mul-result

@@ -1,0 +1,12 @@
+-- `exports::digits::width` meets its contract: by the powers of ten beside the number.
+use mathlib.Core.Path.{sym}
+use native.Mathlib.Omega.{arith}
+use Rattle.exports.proofs.DecimalLaws.{width_is, width_most}
+use Rattle.exports.proofs.digits.width.Goals as goal
+
+pub returns : goal.returns
+returns c =
+    let l = c.ilog10.ensures in
+    let m = c.max.ensures in
+    let e = width_is c.ilog10.result c.args.x (omega arith) (omega arith) in
+    (sym e, omega (arith, e, width_most 6 c.args.x (omega arith)))

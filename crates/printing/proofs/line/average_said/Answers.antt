@@ -1,8 +1,0 @@
--- `printing::line::average_said` meets its contract.
-use Rattle.printing.proofs.line.average_said.Goals as goal
-
-pub returns-in-Planned : goal.returns-in-Planned
-returns-in-Planned c = rw c.in-Planned.is
-
-pub returns-in-Refused : goal.returns-in-Refused
-returns-in-Refused c = rw c.in-Refused.is
