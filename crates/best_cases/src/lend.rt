@@ -1,8 +1,8 @@
 // Groups of calls: the tables and the weights are made once, and each call gets them with its three buffers filled anew.
 use best::plan::best_plan;
-use promise::PlanAnswer;
+use checks::lent::Tables;
 use shown::answer::{end_line, put_answer};
-use shown::group::{Group, Origin, Tables};
+use shown::group::{Group, Origin};
 use shown::input::{number, place};
 use shown::lent::{fill, put_lent};
 use std::io;
@@ -53,30 +53,13 @@ impl Lent<'_> {
 fn one<R: Read, W: Write>(
     input: &mut R,
     out: &mut W,
-    t: &Tables,
+    tables: &Tables,
     lent: &mut Lent,
 ) -> io::Result<()> {
     let budget = number::<8>(input)?;
     lent.refill();
-    let answer = match best_plan(
-        t.scans,
-        t.settings,
-        t.law,
-        budget,
-        t.rates,
-        t.distortions,
-        t.weights,
-        lent.plan,
-        lent.choices,
-        lent.totals,
-    ) {
-        PlanAnswer::Planned(t) => Ok(t),
-        PlanAnswer::Refused(r) => Err(r),
-    };
-    put_answer(
-        out,
-        answer.map(|best| [best.rate.0, best.distortion.0, best.peak]),
-    )?;
+    let answer = best_plan(tables, budget, lent.plan, lent.choices, lent.totals);
+    put_answer(out, answer.map(|t| [t.rate.0, t.distortion.0, t.peak]))?;
     lent.put(out)?;
     end_line(out)
 }

@@ -1,7 +1,6 @@
 // The two calls: what is lent is made, the call answers, and a line says what it answered and what it left.
 use crate::show::Show;
-use checks::stage::Stage;
-use exports::export::{ExportAnswer, export};
+use exports::export::export;
 use imports::import::import;
 use shown::answer::{end_line, put_answer};
 use shown::input::{bytes, number, place, read_full};
@@ -9,7 +8,6 @@ use shown::lent::{fill, put_lent};
 use shown::source::Source;
 use std::io;
 use std::io::{Read, Write};
-use tables::refusal::Refusal;
 
 // Where the cells of the two tables before an import start, and the pattern of the text before an export.
 const RATES_FROM: usize = 2000000000;
@@ -33,20 +31,6 @@ struct Case {
     show: Show,
     scans: u64,
     settings: u64,
-}
-
-fn of_import(s: Stage) -> Result<(), Refusal> {
-    match s {
-        Stage::Passed => Ok(()),
-        Stage::Stopped(r) => Err(r),
-    }
-}
-
-fn of_export(a: ExportAnswer) -> Result<u64, Refusal> {
-    match a {
-        ExportAnswer::Exported(n) => Ok(n),
-        ExportAnswer::Refused(r) => Err(r),
-    }
 }
 
 // A piece of the input takes the place of what is kept there, as far as there is room.
@@ -78,14 +62,14 @@ fn import_call<R: Read, W: Write>(
     fill(rates, RATES_FROM);
     fill(distortions, DISTORTIONS_FROM);
     fill(scratch, from);
-    let answer = of_import(import(
+    let answer = import(
         case.scans,
         case.settings,
         &text[..t],
         rates,
         distortions,
         scratch,
-    ));
+    );
     put_answer(out, answer.map(|_| []))?;
     case.show.put(out, "r", rates, RATES_FROM)?;
     case.show.put(out, "d", distortions, DISTORTIONS_FROM)?;
@@ -117,7 +101,7 @@ fn export_call<R: Read, W: Write>(
     source.make(input, distortions, cell)?;
     let text = &mut text[..t];
     fill(text, TEXT_FROM);
-    let answer = of_export(export(case.scans, case.settings, rates, distortions, text));
+    let answer = export(case.scans, case.settings, rates, distortions, text);
     put_answer(out, answer.map(|length| [length]))?;
     case.show.put(out, "t", text, TEXT_FROM)?;
     end_line(out)

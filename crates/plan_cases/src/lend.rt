@@ -1,7 +1,8 @@
 // Groups of calls: the tables and the weights are made once, and each call gets them with both buffers filled anew.
 use crate::ask::Ask;
+use checks::lent::Tables;
 use shown::answer::end_line;
-use shown::group::{Group, Origin, Tables};
+use shown::group::{Group, Origin};
 use shown::input::{number, place};
 use shown::lent::{fill, put_lent};
 use std::io;
