@@ -17,7 +17,8 @@ use Rattle.checks.specs.Checks.{or_answer}
 use Rattle.checks.proofs.CheckLaws.{first_found}
 use Rattle.octets.specs.Bytes.{part, value, number_at}
 use Rattle.blocks.specs.Letters.{qpl2, version_of}
-use Rattle.blocks.specs.BlockCheck.{sum, tilt, check_of}
+use Rattle.std.specs.List.{sum}
+use Rattle.blocks.specs.BlockCheck.{tilt, check_of}
 use Rattle.blocks.specs.Blocks.{length_out, block_broken, bad_block}
 use Rattle.blocks.proofs.LetterLaws.{same_version}
 use Rattle.blocks.proofs.SumLaws.{check_tilt}

@@ -11,7 +11,8 @@ use Rattle.checks.proofs.CheckLaws.{first_found}
 use Rattle.octets.specs.Bytes.{part, value, number_at}
 use Rattle.octets.proofs.PartLaws.{part_length, part_get}
 use Rattle.blocks.specs.Letters.{qpl1, qpl2, letters, version_of}
-use Rattle.blocks.specs.BlockCheck.{sum, tilt}
+use Rattle.std.specs.List.{sum}
+use Rattle.blocks.specs.BlockCheck.{tilt}
 use Rattle.blocks.specs.Blocks.{length_out, block_broken, bad_block}
 use Rattle.blocks.proofs.LetterLaws.{letters_version, qpl1_known, qpl2_known}
 use Rattle.blocks.proofs.SumLaws.{check_tilt, check_sum}

@@ -8,14 +8,14 @@ use native.Mathlib.Omega.{arith}
 use lib.ListN.{length, get_or, set, length-set}
 use lib.Seq.{get_or-set_other}
 use Rattle.laws.proofs.Tests.{cases}
-use Rattle.blocks.specs.BlockCheck.{sum, tilt}
-use Rattle.blocks.proofs.SumLaws.{tilt_cons}
+use Rattle.std.specs.List.{sum}
+use Rattle.blocks.specs.BlockCheck.{tilt}
+use Rattle.std.proofs.lemmas.List.Sums.{sum_by-set}
+use Rattle.blocks.proofs.SumLaws.{sum_cons, tilt_cons}
 
 -- the sum changes by what the byte changes
-pub sum_set : (l : List ℕ) (k v : ℕ) → k < length l → sum (set l k v) + get_or l k 0 ≡ sum l + v
-sum_set [] k v h = absurd (omega arith)
-sum_set (b ∷ l) zero v h = omega arith
-sum_set (b ∷ l) (suc k) v h = omega (arith, sum_set l k v (omega arith))
+abbrev pub sum_set : (l : List ℕ) (k v : ℕ) → k < length l → sum (set l k v) + get_or l k 0 ≡ sum l + v
+sum_set l k v h = sum_by-set (λ x. x) l k v 0 h
 
 -- the tilt by n - k times as much
 pub tilt_set : (n : ℕ) (l : List ℕ) (k v : ℕ) → k < length l → length l ≤ n → tilt n (set l k v) + (n - k) * get_or l k 0 ≡ tilt n l + (n - k) * v
@@ -32,17 +32,17 @@ tilt_set (suc n) (b ∷ l) (suc k) v h g =
 pub sum_below : (n : ℕ) (l : List ℕ) → length l ≤ n → sum l ≤ tilt n l
 sum_below n [] g = omega arith
 sum_below zero (b ∷ l) g = absurd (omega arith)
-sum_below (suc n) (b ∷ l) g = omega (arith, sum_below n l (omega arith), tilt_cons n b l)
+sum_below (suc n) (b ∷ l) g = omega (arith, sum_below n l (omega arith), tilt_cons n b l, sum_cons b l)
 
 pub tilt_over : (n : ℕ) (l : List ℕ) (k : ℕ) → k < length l → length l ≤ n → sum l + (n - suc k) * get_or l k 0 ≤ tilt n l
 tilt_over n [] k h g = absurd (omega arith)
 tilt_over zero (b ∷ l) k h g = absurd (omega arith)
 tilt_over (suc n) (b ∷ l) zero h g =
     let e : suc n - 1 ≡ n = omega arith in
-    rw e (omega (arith, sum_below n l (omega arith), tilt_cons n b l))
+    rw e (omega (arith, sum_below n l (omega arith), tilt_cons n b l, sum_cons b l))
 tilt_over (suc n) (b ∷ l) (suc k) h g =
     let e : suc n - suc (suc k) ≡ n - suc k = omega arith in
-    rw e (omega (arith, tilt_over n l k (omega arith) (omega arith), tilt_cons n b l))
+    rw e (omega (arith, tilt_over n l k (omega arith) (omega arith), tilt_cons n b l, sum_cons b l))
 
 -- so another byte makes another tilt
 pub changed_tilt : (n : ℕ) (l : List ℕ) (k v : ℕ) → k < length l → length l ≤ n → v ≢ get_or l k 0 → tilt n (set l k v) ≢ tilt n l

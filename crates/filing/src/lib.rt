@@ -5,83 +5,59 @@
 ghost use Rattle.std.specs.Prelude.{◌≡◌};
 ghost use Rattle.filing.specs.Filing.{mark_of, average_fields, minmax_fields};
 
+use checks::lent::Tables;
 use keys::cost::Dist;
 use promise::{AveragePlan, MinmaxPlan};
 use rules::Fields;
+use walk::Totals;
 
-// The mark: 1 where some weight is not 1, otherwise 0.
+// The mark: 1 where some weight is not 1, otherwise 0. A number, as the file has it.
 fn mark(weights: &[u8]) -> u64
     ensures { result ≡ mark_of weights.now }
 {
-    let mut i = 0;
-    while i < weights.len() {
-        if weights[i] != 1 {
+    for weight in weights {
+        if *weight != 1 {
             return 1;
         }
-        i += 1;
     }
     0
 }
 
-// An average plan: kind 0, with its multiplier and its floor.
-pub fn average_fields(
-    scans: u64,
-    settings: u64,
-    law: u64,
-    budget: u64,
-    weights: &[u8],
-    plan: AveragePlan,
-) -> Fields
-    ensures { result ≡ average_fields scans settings law budget weights.now plan }
+// What the files of both have: what the call was lent, and the totals of its plan; neither a multiplier nor a floor.
+fn fields(kind: u64, tables: &Tables, budget: u64, totals: Totals) -> Fields
+    ensures { result ≡ record (minmax_fields tables.now.scans tables.now.settings tables.now.law budget tables.now.weights.now (record { ceiling = 0; totals = totals })) { kind = kind } }
 {
-    let weighted = mark(weights);
-    let totals = plan.totals;
-    let rate = totals.rate;
-    let distortion = totals.distortion;
-    let floor = plan.floor;
     Fields {
-        scans,
-        settings,
-        law,
-        kind: 0,
-        budget,
-        n: plan.n,
-        d: plan.d,
-        rate,
-        distortion,
-        peak: totals.peak,
-        floor,
-        weighted,
-    }
-}
-
-// A minmax plan: kind 1, with neither a multiplier nor a floor.
-pub fn minmax_fields(
-    scans: u64,
-    settings: u64,
-    law: u64,
-    budget: u64,
-    weights: &[u8],
-    plan: MinmaxPlan,
-) -> Fields
-    ensures { result ≡ minmax_fields scans settings law budget weights.now plan }
-{
-    let weighted = mark(weights);
-    let totals = plan.totals;
-    let rate = totals.rate;
-    let distortion = totals.distortion;
-    Fields {
-        scans,
-        settings,
-        law,
-        kind: 1,
+        scans: tables.scans,
+        settings: tables.settings,
+        law: tables.law,
+        kind,
         budget,
         n: 0,
         d: 0,
-        rate,
-        distortion,
+        rate: totals.rate,
+        distortion: totals.distortion,
         peak: totals.peak,
         floor: Dist(0),
-        weighted,
+        weighted: mark(tables.weights),
     }
+}
+
+// An average plan: kind 0, with its multiplier and its floor.
+pub fn average_fields(tables: &Tables, budget: u64, plan: AveragePlan) -> Fields
+    ensures { result ≡ average_fields tables.now.scans tables.now.settings tables.now.law budget tables.now.weights.now plan }
+{
+    Fields {
+        n: plan.n,
+        d: plan.d,
+        floor: plan.floor,
+        ..fields(0, tables, budget, plan.totals)
+    }
+}
+
+// A minmax plan: kind 1.
+pub fn minmax_fields(tables: &Tables, budget: u64, plan: MinmaxPlan) -> Fields
+    ensures { result ≡ minmax_fields tables.now.scans tables.now.settings tables.now.law budget tables.now.weights.now plan }
+{
+    fields(1, tables, budget, plan.totals)
 }

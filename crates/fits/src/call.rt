@@ -30,15 +30,7 @@ fn scan_by_scan(asked: &Asked) -> Result<bool, Refusal>
         let to = from + rows * settings;
         judge_run(asked.rates, asked.distortions, from, to, 1)?;
         // Rows past those that are reached are judged, and not counted.
-        least = step(
-            asked.rates,
-            from,
-            reached,
-            scan,
-            asked.law,
-            settings,
-            &least,
-        );
+        least = step(asked, from, reached, scan, &least);
         reached = last_within(&least, settings, limit);
         if reached == 0 {
             return Ok(false);

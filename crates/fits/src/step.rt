@@ -4,6 +4,7 @@ ghost use Rattle.tables.specs.Limits.{most_settings, over_total};
 ghost use Rattle.tables.specs.Law.{law_of, Follows, SideBySide};
 ghost use Rattle.fits.specs.Reach.{RowTaken, ScanTaken, LastWithin};
 
+use crate::asked::Asked;
 use std::ops::Range;
 use tables::law::run;
 use tables::limits::OVER_TOTAL;
@@ -32,23 +33,16 @@ fn following(scan: usize, law: u64, before: usize, settings: usize) -> Range<usi
 }
 
 // A scan whose cells stand from `at` on, in a row for each setting before it: the first rows of it, since those behind them lead nowhere.
-pub fn step(
-    rates: &[u32],
-    at: usize,
-    rows: usize,
-    scan: usize,
-    law: u64,
-    settings: usize,
-    least: &[u32; 16],
-) -> [u32; 16]
-    requires rows_le_settings { (rows ≤ settings) × ((settings ≤ most_settings) × (at + rows * settings ≤ length rates.now)) }
-    requires by_index { (p : ℕ) → p < settings → get_or least.now p 0 ≤ over_total }
-    ensures { ScanTaken (Follows (law_of law) scan) rates.now settings at rows least.now result }
+pub fn step(asked: &Asked, at: usize, rows: usize, scan: usize, least: &[u32; 16]) -> [u32; 16]
+    requires rows_le_settings { (rows ≤ asked.now.settings) × ((asked.now.settings ≤ most_settings) × (at + rows * asked.now.settings ≤ length asked.now.rates.now)) }
+    requires by_index { (p : ℕ) → p < asked.now.settings → get_or least.now p 0 ≤ over_total }
+    ensures { ScanTaken (Follows (law_of asked.now.law) scan) asked.now.rates.now asked.now.settings at rows least.now result }
 {
+    let settings = asked.settings as usize;
     let mut next = [OVER_TOTAL; 16];
     for p in 0..rows {
-        let span = following(scan, law, p, settings);
-        row(rates, at + p * settings, least[p], span, &mut next);
+        let span = following(scan, asked.law, p, settings);
+        row(asked.rates, at + p * settings, least[p], span, &mut next);
     }
     next
 }

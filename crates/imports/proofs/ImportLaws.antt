@@ -2,12 +2,12 @@
 use mathlib.Core.Path.{◌≡◌, refl, sym, ap, ◌∙◌}
 use mathlib.Core.Bool.{Bool, ◌||◌}
 use mathlib.Core.Option.{Option, none, some}
-use mathlib.Core.List.{List, [], ◌∷◌, ◌++◌}
-use Prim.Native.Nat.{ℕ, ◌+◌, ◌-◌, ◌≤◌, ◌<◌}
+use mathlib.Core.List.{List, [], ◌∷◌}
+use Prim.Native.Nat.{ℕ, ◌≤◌, ◌<◌}
 use native.Mathlib.Omega.{arith}
 use lib.Dec.{ltb}
 use lib.ListN.{length, get_or, drop, replicate, length-append, length-replicate, length-drop, get_or-replicate, get_or-append}
-use lib.Seq.{drop_at, ext_get_or, get_or-drop}
+use lib.Seq.{drop_at}
 use borrow.Author.Tests.{ltb-false, le-ltb}
 use Rattle.laws.proofs.Tests.{neither, never}
 use Rattle.tables.specs.declared.refusal.Refusal.{Refusal}
@@ -20,7 +20,6 @@ use Rattle.checks.proofs.CheckLaws.{none_when, none_else, all_pass, else_nothing
 use Rattle.checks.proofs.RangeLaws.{in_range, passes_range}
 use Rattle.lines.specs.Text.{lines}
 use Rattle.imports.specs.Import.{first_fault, import_short, early_import, import_refusal, filled, rates_after, distortions_after, scratch_after, import_of}
-use Rattle.imports.specs.Parts.{Marks, KeptBehind}
 
 -- what is filled is as long as it was
 pub length_filled : (k x : ℕ) (t : List ℕ) → k ≤ length t → length (filled k x t) ≡ length t
@@ -39,19 +38,6 @@ fill_room k x t = omega (arith, length-append (replicate k x) (drop k t), length
 -- and behind them it is as it was
 pub fill_behind : (k x : ℕ) (t : List ℕ) → drop k (filled k x t) ≡ drop k t
 fill_behind k x t = drop_at (replicate k x) (drop k t) k (length-replicate k x)
-
--- zero bytes mark no cell
-pub no_marks : (k : ℕ) (s : List ℕ) → Marks k (filled k 0 s) []
-no_marks k s c h = fill_at k 0 s c h
-
--- filled again, it is filled as before
-pub filled_again : (k : ℕ) (s after : List ℕ) → KeptBehind k (filled k 0 s) after → filled k 0 after ≡ filled k 0 s
-filled_again k s after e = ap (λ (l : List ℕ). replicate k 0 ++ l) (rest ∙ fill_behind k 0 s)
-  where
-    rest : drop k after ≡ drop k (filled k 0 s)
-    rest = ext_get_or 0 (drop k after) (drop k (filled k 0 s))
-        (length-drop k after ∙ ap (λ (n : ℕ). n - k) e.long ∙ sym (length-drop k (filled k 0 s)))
-        (λ i h. get_or-drop k after i 0 ∙ e.rest (k + i) (omega arith) ∙ sym (get_or-drop k (filled k 0 s) i 0))
 
 -- what the checks before the lines have passed
 pub record ImportAdmitted (N Q rates distortions scratch : ℕ) : Type 0 where

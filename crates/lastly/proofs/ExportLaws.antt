@@ -1,16 +1,15 @@
 -- The export on the surface: its answer buffer is part of 6. Assumes nothing.
 use mathlib.Core.Path.{◌≡◌, refl, sym, ap, ◌∙◌}
-use mathlib.Core.Bool.{Bool, true, false, cond, ◌&&◌}
+use mathlib.Core.Bool.{Bool, true, false, cond}
 use mathlib.Core.Option.{Option, none, some}
 use mathlib.Core.List.{List, [], ◌∷◌, ◌++◌}
 use Prim.Native.Nat.{ℕ, ◌≤◌}
 use native.Mathlib.Omega.{arith}
-use lib.Dec.{eqb, ltb}
+use lib.Dec.{ltb}
 use lib.ListN.{length, drop}
 use borrow.Author.Tests.{ltb-false}
 use Rattle.tables.specs.declared.refusal.Refusal.{Refusal}
 use Rattle.tables.specs.declared.refusal.Refusal.TheVariants as refusal
-use Rattle.tables.specs.Refusals.{Reply, refused}
 use Rattle.tables.specs.Limits.{most_scans, most_settings}
 use Rattle.tables.specs.Legal.{no_weights, cell_illegal}
 use Rattle.tables.proofs.CellLaws.{cells_small}
@@ -25,9 +24,9 @@ use Rattle.exports.proofs.ExportLaws.{refusal_parts, export_room}
 use Rattle.telling.specs.Told.{lent}
 use Rattle.telling.specs.Parts.{Tellable}
 use Rattle.telling.proofs.AnswerLaws.{tellable_as}
-use Rattle.lastly.specs.Lastly.{export_told}
+use Rattle.lastly.specs.Lastly.{asked_last, export_told}
 use Rattle.lastly.proofs.CarryLaws.{Little, or_tellable}
-use Rattle.lastly.proofs.LastLaws.{more_check}
+use Rattle.lastly.proofs.LastLaws.{last_told}
 
 -- a cell's number is below the number of cells
 export_light : (N Q : ℕ) (rates distortions : List ℕ) (room : ℕ) → Gives Little (export_refusal N Q rates distortions room)
@@ -74,16 +73,11 @@ module _ (N Q : ℕ) (rates distortions : List ℕ) (room n : ℕ) where
       of none true = both (ltb 0 long) (ltb room long)
 
   -- the export's answer buffer is a test behind its checks
-  pub export_last : (o : Option Refusal) {p : Option Refusal} (v : List ℕ) → or_answer o v ≡ export_answered N Q rates distortions (lent 8 n room) →
-      p ≡ or_else o short → or_answer p v ≡ or_answer (export_told N Q rates distortions room n) (length (export_text N Q rates distortions) ∷ [])
+  pub export_last : asked_last 8 n (export_answered N Q rates distortions (lent 8 n room)) ≡ or_answer (export_told N Q rates distortions room n) (long ∷ [])
   unfolding export_answered
-  export_last o v e f =
-      let w : List ℕ = length (export_text N Q rates distortions) ∷ [] in
-      ap (λ x. or_answer x v) f
-      ∙ more_check o (ltb n 8) refusal.Buffer v
-      ∙ ap (λ (reply : Reply). cond (eqb reply.number 0 && ltb n 8) (refused refusal.Buffer) reply) e
-      ∙ sym (more_check (export_refusal N Q rates distortions (lent 8 n room)) (ltb n 8) refusal.Buffer w)
-      ∙ ap (λ x. or_answer x w) told_parts
+  export_last =
+      sym (last_told 8 n (export_refusal N Q rates distortions (lent 8 n room)) (long ∷ []) refl)
+      ∙ ap (λ x. or_answer x (long ∷ [])) told_parts
 
   pub export_tellable : Tellable (or_answer (export_told N Q rates distortions room n) (length (export_text N Q rates distortions) ∷ [])) n
   export_tellable =

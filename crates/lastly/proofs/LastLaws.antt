@@ -32,13 +32,10 @@ more_check none false r v = refl
 more_check (some s) t r v = rw (ne_eqb (number_of s) 0 (never_zero s)) refl
 
 -- the answer buffer is such a test
-pub last_told : (need n : ℕ) (o : Option Refusal) {p : Option Refusal} (v : List ℕ) {reply : Reply} → or_answer o v ≡ reply →
-    p ≡ or_else o (when (ltb n need) refusal.Buffer) → or_answer p v ≡ asked_last need n reply
+pub last_told : (need n : ℕ) (o : Option Refusal) {p : Option Refusal} (v : List ℕ) → p ≡ or_else o (when (ltb n need) refusal.Buffer) →
+    or_answer p v ≡ asked_last need n (or_answer o v)
 unfolding asked_last
-last_told need n o v e f =
-    ap (λ x. or_answer x v) f
-    ∙ more_check o (ltb n need) refusal.Buffer v
-    ∙ ap (λ (reply : Reply). cond (eqb reply.number 0 && ltb n need) (refused refusal.Buffer) reply) e
+last_told need n o v e = ap (λ x. or_answer x v) e ∙ more_check o (ltb n need) refusal.Buffer v
 
 -- what can be told where the answer has its need can be told
 pub last_tellable : (need n : ℕ) (reply : Reply) → Tellable reply need → Tellable (asked_last need n reply) n

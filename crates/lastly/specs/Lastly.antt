@@ -1,6 +1,6 @@
 -- The room question, the export and the question whether something fits, on the C surface: of none do the documents place the answer buffer
 -- among the checks, and there it is asked for behind all of them. Assumes nothing.
-use Rattle.std.specs.Prelude.{◌≡◌, cond, ◌&&◌, List, [], ◌∷◌, ◌++◌, ℕ, ◌≤◌, eqb, ltb}
+use Rattle.std.specs.Prelude.{◌≡◌, cond, ◌&&◌, List, [], ◌∷◌, ◌++◌, ℕ, Result, eqb, ltb}
 use Rattle.std.proofs.Math.Option.{Option}
 use Rattle.tables.specs.declared.refusal.Refusal.{Refusal}
 use Rattle.tables.specs.declared.refusal.Refusal.TheVariants as refusal
@@ -8,10 +8,8 @@ use Rattle.tables.specs.Refusals.{Reply, refused}
 use Rattle.room.specs.Room.{room_of}
 use Rattle.checks.specs.Checks.{when, first_refusal}
 use Rattle.exports.specs.Export.{export_checks}
-use Rattle.fits.specs.declared.call.FitsAnswer.{FitsAnswer}
-use Rattle.fits.specs.Fits.{Question, FitsPromise, fits_reply}
-use Rattle.telling.specs.declared.Answer.{Answer}
-use Rattle.telling.specs.Parts.{most_values, answer_reply}
+use Rattle.fits.specs.Fits.{FitsAnswer, Question, FitsPromise, fits_reply}
+use Rattle.telling.specs.Parts.{answer_reply}
 
 -- what a call gives back, where its answer needs so many bytes: 6 in the place of an answer that has no room
 unfoldable pub asked_last : (need answer : ℕ) → Reply → Reply
@@ -30,8 +28,7 @@ unfoldable pub export_told : (N Q : ℕ) (rates distortions : List ℕ) (room an
 export_told N Q rates distortions room answer = first_refusal (export_checks N Q rates distortions room ++ (when (ltb answer 8) refusal.Buffer ∷ []))
 
 -- an answer of the call that keeps its promise, as it is told
-pub record FitsTold (a : Question) (answer : ℕ) (said : Answer) : Type 0 where
+pub record FitsTold (a : Question) (answer : ℕ) (said : Result (List ℕ) Refusal) : Type 0 where
   pub given : FitsAnswer
   pub kept : FitsPromise a (fits_reply given)
   pub told : answer_reply said ≡ fits_told answer given
-  pub count : said.count ≤ most_values

@@ -1,19 +1,20 @@
 // Calls whose answer buffer is the last thing asked for: the room question, the export, and the question whether something fits.
 #![tactic(auto)]
 
-ghost use Rattle.std.specs.Prelude.{◌≡◌, [], ◌∷◌, ◌≤◌, length};
+ghost use Rattle.std.specs.Prelude.{◌≡◌, [], ◌∷◌, length};
 ghost use Rattle.checks.specs.Checks.{or_answer};
 ghost use Rattle.exports.specs.Export.{export_text, text_after};
-ghost use Rattle.fits.specs.Fits.{question};
-ghost use Rattle.telling.specs.Parts.{most_values, answer_reply};
-ghost use Rattle.lastly.specs.Lastly.{room_told, export_told, FitsTold};
+ghost use Rattle.fits.specs.Given.{question_in};
+ghost use Rattle.telling.specs.Parts.{answer_reply};
+ghost use Rattle.lastly.specs.Lastly.{asked_last, room_told, export_told, FitsTold};
 
-use checks::stage::then;
+use checks::stage::unless;
 use exports::export::export;
+use fits::asked::Asked;
 use fits::call::fits;
 use room::room_for;
 use tables::refusal::Refusal;
-use telling::{Answer, export_answer, fits_answer, lent, room_answer};
+use telling::{export_answer, fits_answer, lent, room_answer};
 
 // What the answers take.
 const ROOM_BYTES: usize = 24;
@@ -22,42 +23,37 @@ const FITS_BYTES: usize = 8;
 
 const EXPORT_BYTES: usize = 8;
 
-// The room question, with the answer buffer as the last thing asked for.
-pub fn room_told(channels: u64, scans: u64, settings: u64, answer: usize) -> Answer
-    ensures { (answer_reply result ≡ room_told channels scans settings answer) × (result.count ≤ most_values) }
+// An answer that takes so many bytes, with the answer buffer as the last thing asked for.
+fn asked_last<const N: usize>(
+    told: Result<[u64; N], Refusal>,
+    need: usize,
+    answer: usize,
+) -> Result<[u64; N], Refusal>
+    ensures { answer_reply result ≡ asked_last need answer (answer_reply told.entry) }
 {
-    let room = room_answer(room_for(channels, scans, settings));
-    let asked = room.ended;
-    let values = room.values;
-    let ended = then(asked, answer < ROOM_BYTES, Refusal::Buffer);
-    Answer {
-        ended,
-        values,
-        count: room.count,
-    }
+    let values = told?;
+    unless(answer < need, Refusal::Buffer)?;
+    Ok(values)
+}
+
+// The room question, with the answer buffer as the last thing asked for.
+pub fn room_told(
+    channels: u64,
+    scans: u64,
+    settings: u64,
+    answer: usize,
+) -> Result<[u64; 3], Refusal>
+    ensures { answer_reply result ≡ room_told channels scans settings answer }
+{
+    let told = room_answer(room_for(channels, scans, settings));
+    asked_last(told, ROOM_BYTES, answer)
 }
 
 // Whether something fits, in the same way.
-pub fn fits_told(
-    scans: u64,
-    settings: u64,
-    law: u64,
-    budget: u64,
-    rates: &[u32],
-    distortions: &[u32],
-    answer: usize,
-) -> Answer
-    ensures { FitsTold (question scans settings law budget rates.now distortions.now) answer result }
+pub fn fits_told(asked: &Asked, answer: usize) -> Result<[u64; 1], Refusal>
+    ensures { FitsTold (question_in asked.now) answer result }
 {
-    let told = fits_answer(fits(scans, settings, law, budget, rates, distortions));
-    let asked = told.ended;
-    let values = told.values;
-    let ended = then(asked, answer < FITS_BYTES, Refusal::Buffer);
-    Answer {
-        ended,
-        values,
-        count: told.count,
-    }
+    asked_last(fits_answer(fits(asked)), FITS_BYTES, answer)
 }
 
 // The export, with the answer buffer as part of 6. A short one counts as if no byte were lent for the text, so that none is written; it is
@@ -69,18 +65,11 @@ pub fn export_told(
     distortions: &[u32],
     text: &mut [u8],
     answer: usize,
-) -> Answer
-    ensures result_value { (answer_reply result ≡ or_answer (export_told scans settings rates.now distortions.now (length text.old) answer) (length (export_text scans settings rates.now distortions.now) ∷ [])) × (result.count ≤ most_values) }
+) -> Result<[u64; 1], Refusal>
+    ensures result_value { answer_reply result ≡ or_answer (export_told scans settings rates.now distortions.now (length text.old) answer) (length (export_text scans settings rates.now distortions.now) ∷ []) }
     ensures text_after { text.new ≡ text_after (export_told scans settings rates.now distortions.now (length text.old) answer) scans settings rates.now distortions.now text.old }
 {
     let room = lent(EXPORT_BYTES, answer, text.len());
-    let told = export_answer(export(scans, settings, rates, distortions, &mut text[..room]));
-    let asked = told.ended;
-    let values = told.values;
-    let ended = then(asked, answer < EXPORT_BYTES, Refusal::Buffer);
-    Answer {
-        ended,
-        values,
-        count: told.count,
-    }
+    let told = export(scans, settings, rates, distortions, &mut text[..room]);
+    asked_last(export_answer(told), EXPORT_BYTES, answer)
 }

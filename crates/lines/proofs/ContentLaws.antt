@@ -61,9 +61,6 @@ pub record Writes (c : List ℕ) (v : ℕ) : Type 0 where
   pub digits : all_digits c ≡ true
   pub value : value_from 0 c ≡ v
 
-pub writes_none : Writes [] 0
-writes_none = record { digits = refl; value = refl }
-
 -- digits behind digits
 digits_append : (c d : List ℕ) → all_digits (c ++ d) ≡ (all_digits c && all_digits d)
 digits_append [] d = refl

@@ -5,7 +5,7 @@ use mathlib.Core.List.{List, [], ◌∷◌, ◌++◌, append-nil, append_assoc}
 use Prim.Native.Nat.{ℕ, zero, suc, ◌+◌, ◌-◌, ◌≤◌, ◌<◌}
 use native.Mathlib.Omega.{arith}
 use lib.Dec.{eqb}
-use lib.ListN.{length, get_or, take, drop, drop_of_length-le, get_or-eq_default, length-drop}
+use lib.ListN.{length, get_or, take, drop, drop_of_length-le, length-drop}
 use lib.Seq.{slice, slice_empty, drop-cons, take-suc, length-take-le, drop-append-le, get_or-drop, get_or-take, drop-drop}
 use Rattle.std.proofs.lemmas.List.{drop-take}
 use Rattle.lines.specs.Text.{line_end, line, after, lines_of, lines}
@@ -29,11 +29,6 @@ slice_snoc from i text h g =
 pub no_second : (a b : Bool) → b ≡ false → (a && b) ≡ false
 no_second true b e = e
 no_second false b e = refl
-
--- fewer than two bytes are no line end
-pub no_room : (text : List ℕ) (i : ℕ) → length text - i < 2 → line_end (drop i text) ≡ false
-no_room text i h =
-    no_second (eqb (get_or (drop i text) 0 0) 13) _ (ap (λ (x : ℕ). eqb x 10) (get_or-drop i text 1 0 ∙ get_or-eq_default text 0 (omega arith)))
 
 -- a line end by its two bytes
 pub by_bytes : (text : List ℕ) (i : ℕ) → (eqb (get_or text i 0) 13 && eqb (get_or text (i + 1) 0) 10) ≡ line_end (drop i text)

@@ -1,108 +1,53 @@
 -- The decimal digits of a number, read again. Assumes nothing.
-use mathlib.Core.Path.{◌≡◌, refl, ap, ◌∙◌}
-use mathlib.Core.Bool.{Bool, true, false, cond, ◌&&◌}
-use mathlib.Core.Option.{none, some}
+use mathlib.Core.Path.{◌≡◌, refl, sym}
+use mathlib.Core.Logic.{◌≢◌}
+use mathlib.Core.Bool.{Bool, true, false, cond}
+use mathlib.Core.Option.{some}
 use mathlib.Core.List.{List, [], ◌∷◌, ◌++◌}
-use Prim.Native.Nat.{ℕ, zero, suc, ◌+◌, ◌*◌, ◌-◌, ◌/◌, ◌%◌, ◌≤◌, ◌<◌}
+use Prim.Native.Nat.{ℕ, zero, suc, ◌+◌, ◌*◌, ◌-◌, ◌/◌, ◌%◌, ◌<◌}
 use native.Mathlib.Omega.{arith}
-use lib.Dec.{eqb, ltb, leb}
-use lib.ListN.{length, get_or, take, drop, length-append}
-use borrow.Author.Tests.{ltb-true, ltb-false, le-leb, ne_eqb}
-use Rattle.laws.proofs.Tests.{both}
+use lib.Dec.{ltb}
+use lib.ListN.{get_or}
+use borrow.Author.Tests.{ltb-true, ltb-false, le-leb}
+use Rattle.laws.proofs.Tests.{both, cases}
 use Rattle.reading.specs.Text.{digit}
-use Rattle.lines.specs.Text.{quoted, content, all_digits, value_from, number}
-use Rattle.lines.proofs.LineLaws.{no_second}
+use Rattle.lines.specs.Text.{content, all_digits, number}
+use Rattle.lines.proofs.ContentLaws.{Writes, writes_more, written, no_quote, content_plain}
 use Rattle.reading.proofs.WordLaws.{digit_bounds}
 use Rattle.exports.specs.Export.{decimal_of, decimal}
+use Rattle.exports.proofs.DecimalLaws.{width_one, width_more, width_most}
 
--- ---- digits
+digit_of : (d : ℕ) → d < 10 → digit (48 + d) ≡ true
+digit_of d h = rw (le-leb 48 (48 + d) (omega arith), le-leb (48 + d) 57 (omega arith)) refl
 
-pub digit_of : (d : ℕ) → d < 10 → digit (48 + d) ≡ true
-digit_of d h = ap (λ (b : Bool). b && leb (48 + d) 57) (le-leb 48 (48 + d) (omega arith)) ∙ le-leb (48 + d) 57 (omega arith)
-
-all_append : (l m : List ℕ) → all_digits l ≡ true → all_digits m ≡ true → all_digits (l ++ m) ≡ true
-all_append [] m e f = f
-all_append (c ∷ l) m e f = of (digit c) (all_digits l) e (all_append l m)
+-- the digits of a number write it
+decimal_of_writes : (k x : ℕ) → x < k → Writes (decimal_of k x) x
+decimal_of_writes zero x h = absurd (omega arith)
+decimal_of_writes (suc k) x h = of (ltb x 10) refl (decimal_of_writes k (x / 10))
   where
-    of : (s t : Bool) → (s && t) ≡ true → (t ≡ true → all_digits m ≡ true → all_digits (l ++ m) ≡ true) → (s && all_digits (l ++ m)) ≡ true
-    of true t e g = g e f
-    of false t e g = e
+    of : (b : Bool) → ltb x 10 ≡ b → (x / 10 < k → Writes (decimal_of k (x / 10)) (x / 10)) →
+        Writes (cond b ((48 + x) ∷ []) (decimal_of k (x / 10) ++ ((48 + x % 10) ∷ []))) x
+    of true e rest =
+        let v : 10 * 0 + (48 + x - 48) ≡ x = omega arith in
+        rw v at (writes_more {c = []} (48 + x) (record { digits = refl; value = refl }) (digit_of x (ltb-true x 10 e)))
+    of false e rest =
+        let l = ltb-false x 10 e in
+        let v : 10 * (x / 10) + (48 + x % 10 - 48) ≡ x = omega arith in
+        rw v at (writes_more (48 + x % 10) (rest (omega arith)) (digit_of (x % 10) (omega arith)))
 
-value_append : (l m : List ℕ) (v : ℕ) → value_from v (l ++ m) ≡ value_from (value_from v l) m
-value_append [] m v = refl
-value_append (c ∷ l) m v = value_append l m (10 * v + (c - 48))
-
--- one to n digits that write x
-pub record Written (x n : ℕ) (l : List ℕ) : Type 0 where
-  pub digits : all_digits l ≡ true
-  pub value : value_from 0 l ≡ x
-  pub some_digit : 1 ≤ length l
-  pub most : length l ≤ n
-
--- ten to the n-th
-abbrev ten : ℕ → ℕ
-ten zero = 1
-ten (suc n) = 10 * ten n
-
-written : (k x n : ℕ) → x < k → x < ten (suc n) → Written x (suc n) (decimal_of k x)
-written zero x n h g = absurd (omega arith)
-written (suc k) x n h g = of n (ltb x 10) refl g (written k (x / 10))
-  where
-    of : (n : ℕ) (b : Bool) → ltb x 10 ≡ b → x < ten (suc n) →
-        ((m : ℕ) → x / 10 < k → x / 10 < ten (suc m) → Written (x / 10) (suc m) (decimal_of k (x / 10))) →
-        Written x (suc n) (cond b ((48 + x) ∷ []) (decimal_of k (x / 10) ++ ((48 + x % 10) ∷ [])))
-    of n true e g rest =
-        let small = ltb-true x 10 e in
-        record {
-          digits = ap (λ (b : Bool). b && true) (digit_of x small);
-          value = omega arith;
-          some_digit = omega arith;
-          most = omega arith;
-        }
-    of zero false e g rest = absurd (omega (arith, ltb-false x 10 e, g))
-    of (suc n) false e g rest =
-        let large = ltb-false x 10 e in
-        let shorter = rest n (omega arith) (omega (arith, g)) in
-        let l = decimal_of k (x / 10) in
-        let d = (48 + x % 10) ∷ [] in
-        let v : value_from 0 (l ++ d) ≡ value_from (x / 10) d = value_append l d 0 ∙ ap (λ (u : ℕ). value_from u d) shorter.value in
-        let w : value_from (x / 10) d ≡ x = omega arith in
-        record {
-          digits = all_append l d shorter.digits (ap (λ (b : Bool). b && true) (digit_of (x % 10) (omega arith)));
-          value = v ∙ w;
-          some_digit = omega (arith, length-append l d);
-          most = omega (arith, length-append l d, shorter.most);
-        }
-
--- ---- a list of digits as a field
-
--- it has no quotes
-pub plain_content : (l : List ℕ) → all_digits l ≡ true → content l ≡ l
-unfolding content
-plain_content [] e = refl
-plain_content (c ∷ l) e =
-    let d = digit_bounds c (both (digit c) (all_digits l) e).0 in
-    let q : quoted (c ∷ l) ≡ false = no_second (leb 2 (length (c ∷ l))) _
-    (ap (λ (b : Bool). b && eqb (get_or (c ∷ l) (length (c ∷ l) - 1) 0) 34) (ne_eqb c 34 (λ z. omega (arith, d.0, z)))) in
-    ap (λ (b : Bool). cond b (take (length (c ∷ l) - 2) (drop 1 (c ∷ l))) (c ∷ l)) q
-
-number_of : {x : ℕ} {l : List ℕ} → Written x 7 l → number l ≡ some x
-unfolding number
-number_of {x} {l} w =
-    ap (λ (b : Bool). cond (b && (leb (length l) 7 && all_digits l)) (some (value_from 0 l)) none) (le-leb 1 (length l) w.some_digit)
-    ∙ ap (λ (b : Bool). cond (b && all_digits l) (some (value_from 0 l)) none) (le-leb (length l) 7 w.most)
-    ∙ ap (λ (b : Bool). cond b (some (value_from 0 l)) none) w.digits
-    ∙ ap some w.value
-
--- ---- the digits of a number
-
-pub decimal_written : (x : ℕ) → x < 10000000 → Written x 7 (decimal x)
+pub decimal_writes : (x : ℕ) → Writes (decimal x) x
 unfolding decimal
-decimal_written x h = written (suc x) x 6 (omega arith) (omega arith)
+decimal_writes x = decimal_of_writes (suc x) x (omega arith)
 
 -- read again, they are the number
 pub number_decimal : (x : ℕ) → x < 10000000 → number (decimal x) ≡ some x
-number_decimal x h = number_of (decimal_written x h)
+number_decimal x h =
+    sym (written (decimal_writes x) (λ z. cases x 10 (λ s. omega (arith, width_one x s)) (λ b. omega (arith, width_more x b))) (width_most 6 x (omega arith)))
 
-pub content_decimal : (x : ℕ) → x < 10000000 → content (decimal x) ≡ decimal x
-content_decimal x h = plain_content (decimal x) (decimal_written x h).digits
+-- and they have no quotes
+digits_first : (l : List ℕ) → all_digits l ≡ true → get_or l 0 0 ≢ 34
+digits_first [] e z = omega arith
+digits_first (c ∷ l) e z = let d = digit_bounds c (both (digit c) (all_digits l) e).0 in omega arith
+
+pub content_decimal : (x : ℕ) → content (decimal x) ≡ decimal x
+content_decimal x = sym (content_plain (decimal x) (no_quote (decimal x) (digits_first (decimal x) (decimal_writes x).digits)))

@@ -2,7 +2,7 @@
 use mathlib.Core.Path.{◌≡◌, refl, sym, ap, ◌∙◌}
 use mathlib.Core.Logic.{◌≢◌}
 use mathlib.Core.Bool.{Bool, true, false, cond, ◌&&◌}
-use mathlib.Core.Option.{Option, none, some}
+use mathlib.Core.Option.{none, some}
 use mathlib.Core.List.{List, [], ◌∷◌, ◌++◌, append_assoc, append-nil}
 use Prim.Native.Nat.{ℕ, ◌+◌, ◌<◌}
 use native.Mathlib.Omega.{arith}
@@ -13,16 +13,16 @@ use borrow.Author.Tests.{ne_eqb, eqb-true, eqb-false}
 use Rattle.laws.proofs.Tests.{both}
 use Rattle.reading.specs.Text.{digit}
 use Rattle.lines.specs.Text.{line_end, line, after, lines, joined, fields, content, all_digits, number}
-use Rattle.lines.specs.Said.{previous, five_numbers, says_of}
-use Rattle.lines.specs.Parts.{LineEnds, previous_after}
+use Rattle.lines.specs.Said.{previous, says_of}
+use Rattle.lines.specs.Parts.{LineEnds}
 use Rattle.lines.proofs.LineLaws.{lines_go_on}
 use Rattle.reading.proofs.WordLaws.{digit_bounds}
-use Rattle.lines.proofs.SaidLaws.{five_say, previous_zero, previous_later}
+use Rattle.lines.proofs.SaidLaws.{five_read, previous_zero, previous_later}
 use Rattle.exports.specs.declared.place.Place.{Place}
 use Rattle.exports.specs.Export.{decimal, previous_field, line_text, export_line}
 use Rattle.exports.proofs.LineLaws.{previous_none, previous_some}
 use Rattle.lists.specs.Shown.{said_at}
-use Rattle.lists.proofs.DecimalLaws.{decimal_written, number_decimal, content_decimal}
+use Rattle.lists.proofs.DecimalLaws.{decimal_writes, number_decimal, content_decimal}
 
 -- ---- lists without a byte
 
@@ -104,8 +104,8 @@ pub record Sized (p : Place) (rate distortion : ℕ) : Type 0 where
   pub rate_small : rate < 10000000
   pub distortion_small : distortion < 10000000
 
-decimal_free : (x : ℕ) → x < 48 → (y : ℕ) → y < 10000000 → Free x (decimal y)
-decimal_free x h y g = free_digits x h (decimal y) (decimal_written y g).digits
+decimal_free : (x : ℕ) → x < 48 → (y : ℕ) → Free x (decimal y)
+decimal_free x h y = free_digits x h (decimal y) (decimal_writes y).digits
 
 content_empty : content [] ≡ []
 unfolding content
@@ -132,9 +132,9 @@ previous_is p h = of (eqb p.scan 0) refl
         let z = eqb-false p.scan 0 e in
         let f = previous_some p z in
         record {
-          free = λ x l. rw f (decimal_free x l p.previous h);
+          free = λ x l. rw f (decimal_free x l p.previous);
           says = previous_later p.scan (content (previous_field p)) z ∙ ap (λ (l : List ℕ). number (content l)) f
-              ∙ ap number (content_decimal p.previous h) ∙ number_decimal p.previous h ∙ ap (λ (b : Bool). some (cond b 0 p.previous)) (sym e);
+              ∙ ap number (content_decimal p.previous) ∙ number_decimal p.previous h ∙ ap (λ (b : Bool). some (cond b 0 p.previous)) (sym e);
         }
 
 line_free : {p : Place} {rate distortion : ℕ} → Sized p rate distortion → Free 13 (line_text p rate distortion)
@@ -144,14 +144,14 @@ line_free {p} {rate} {distortion} s =
     let fourth = decimal rate ++ (44 ∷ decimal distortion) in
     let third = decimal p.setting ++ (44 ∷ fourth) in
     let second = previous_field p ++ (44 ∷ third) in
-    free_append 13 (decimal p.scan) (44 ∷ second) (decimal_free 13 h p.scan s.scan) (
+    free_append 13 (decimal p.scan) (44 ∷ second) (decimal_free 13 h p.scan) (
       c,
       free_append 13 (previous_field p) (44 ∷ third) ((previous_is p s.previous).free 13 h) (
         c,
-        free_append 13 (decimal p.setting) (44 ∷ fourth) (decimal_free 13 h p.setting s.setting) (
+        free_append 13 (decimal p.setting) (44 ∷ fourth) (decimal_free 13 h p.setting) (
           c,
-          free_append 13 (decimal rate) (44 ∷ decimal distortion) (decimal_free 13 h rate s.rate_small)
-              (c, decimal_free 13 h distortion s.distortion_small),
+          free_append 13 (decimal rate) (44 ∷ decimal distortion) (decimal_free 13 h rate)
+              (c, decimal_free 13 h distortion),
         ),
       ),
     )
@@ -163,22 +163,16 @@ unfolding export_line
 lines_export {p} {rate} {distortion} s rest = lines_line (line_text p rate distortion) rest (line_free s)
 
 read_decimal : (x : ℕ) → x < 10000000 → number (content (decimal x)) ≡ some x
-read_decimal x h = ap number (content_decimal x h) ∙ number_decimal x h
-
-numbers_are : (s q r x : Option ℕ) (e : List ℕ) (a b c d f : ℕ) → s ≡ some a → previous a e ≡ some b → q ≡ some c → r ≡ some d → x ≡ some f →
-    five_numbers s (previous_after s e) q r x ≡ some (record { scan = a; previous = b; setting = c; rate = d; distortion = f })
-numbers_are s q r x e a b c d f h i j k l = rw (h, j, k, l, i) refl
+read_decimal x h = ap number (content_decimal x) ∙ number_decimal x h
 
 -- and it says what was exported
 pub line_says : {p : Place} {rate distortion : ℕ} → Sized p rate distortion → says_of (line_text p rate distortion) ≡ some (said_at p rate distortion)
 line_says {p} {rate} {distortion} s =
     let h : 44 < 48 = omega arith in
     let before = previous_is p s.previous in
-    sym (five_say (line_text p rate distortion) (decimal p.scan) (previous_field p) (decimal p.setting) (decimal rate) (decimal distortion)
+    sym (five_read (line_text p rate distortion)
     (five_fields (decimal p.scan) (previous_field p) (decimal p.setting) (decimal rate) (decimal distortion)
-    (decimal_free 44 h p.scan s.scan) (before.free 44 h) (decimal_free 44 h p.setting s.setting) (decimal_free 44 h rate s.rate_small)
-    (decimal_free 44 h distortion s.distortion_small)))
-    ∙ numbers_are (number (content (decimal p.scan))) (number (content (decimal p.setting))) (number (content (decimal rate))) (number (content (decimal distortion)))
-    (content (previous_field p)) p.scan (cond (eqb p.scan 0) 0 p.previous) p.setting rate distortion
-    (read_decimal p.scan s.scan) before.says (read_decimal p.setting s.setting) (read_decimal rate s.rate_small)
-    (read_decimal distortion s.distortion_small)
+    (decimal_free 44 h p.scan) (before.free 44 h) (decimal_free 44 h p.setting) (decimal_free 44 h rate)
+    (decimal_free 44 h distortion))
+    (sym (read_decimal p.scan s.scan)) (sym before.says) (sym (read_decimal p.setting s.setting)) (sym (read_decimal rate s.rate_small))
+    (sym (read_decimal distortion s.distortion_small)))

@@ -10,21 +10,20 @@ use checks::checked::Checked;
 use keys::cost::Ratio;
 use keys::weigh::weigh;
 use least::Rule;
+use tables::limits::OVER_TOTAL;
 use trellis::pass::pass;
 
 // Above every distortion.
 pub const NO_CEILING: u32 = 4294967295;
 
-// Rates count first, distortions where rates tie: a total of distortion stays below this weight.
-const RATE_FIRST: u32 = 1073741824;
-
 pub fn thrifty_pass(t: &Checked, ceiling: u32, scratch: &mut [u8]) -> bool
     requires { scratch_need t.now.scans t.now.settings ≤ length scratch.old }
     ensures { ThriftyPass (planning_in t.now) t.now.scans t.now.settings ceiling scratch.old scratch.new result }
 {
+    // Rates count first, distortions where rates tie: a total of distortion stays below this weight.
     let rule = Rule {
         a: 1,
-        b: RATE_FIRST,
+        b: OVER_TOTAL,
         ceiling,
     };
     pass(t, rule, scratch)

@@ -7,10 +7,8 @@ ghost use Rattle.within.specs.Rows.{AllPut, Taken, Fits, row_offer, RowMade};
 
 use least::choose;
 use std::ops::Range;
+use tables::limits::OVER_TOTAL;
 use trellis::cells::Cells;
-
-// More than the distortion of any sequence, and with a cell added it still fits.
-const NO_WAY: u32 = 1073741824;
 
 // Where a row stands that is made: its totals from `here` on, its choices from `at` on; and in the totals, from `ahead` on, what lies ahead of it.
 #[derive(Clone, Copy)]
@@ -112,7 +110,8 @@ pub fn row(
     requires fits { Fits width (over.end * width) place.here place.ahead place.at totals.old choices.old }
     ensures { RowMade (row_offer cells.now.weight cells.now.from width place.ahead cells.now.rates.now cells.now.distortions.now totals.old) width over.start over.end place.here place.at totals.old choices.old totals.new choices.new }
 {
-    put_all(totals, place.here, width, NO_WAY);
+    // Where no way on is found yet stands more than any sequence comes to.
+    put_all(totals, place.here, width, OVER_TOTAL);
     for q in over.start..over.end {
         consider(totals, choices, place, width, cells, q);
     }

@@ -13,6 +13,7 @@ use Rattle.printing.specs.Lines.{line, ave, minmax}
 use Rattle.laws.specs.Put.{Put}
 use Rattle.laws.proofs.Tests.{never}
 use Rattle.printing.specs.declared.line.Said.{Said}
+use Rattle.printing.specs.declared.put.Text.{Text}
 use Rattle.printing.specs.declared.line.Said.TheVariants.{Refused}
 use Rattle.laws.proofs.PutLaws.{next}
 use Rattle.reading.specs.Fed.{Feeds}
@@ -20,7 +21,7 @@ use Rattle.reading.specs.declared.State.{State}
 use Rattle.workbench.specs.Request.{Request, out_of_range, to_plan}
 use Rattle.workbench.specs.Written.{PromiseOf, PlannedLine, AveLine, MinmaxLine, WrittenFor, both_refused, both_planned}
 use Rattle.workbench.specs.Done.{Answers}
-use Rattle.workbench.specs.Parts.{CallLine, RightLine, Holds, Requests, plan_requested, scans, settings, law, budget, rates, distortions}
+use Rattle.workbench.specs.Parts.{CallLine, RightLine, Holds, WrittenIn, Requests, plan_requested, scans, settings, law, budget, rates, distortions}
 
 -- the first settings of a plan
 pub prefix_long : (N : ℕ) (plan : List ℕ) → N ≤ length plan → N ≡ length (take N plan)
@@ -108,6 +109,6 @@ pub alone_holds : {d e l : List ℕ} {at r : ℕ} {a : Request} → at ≡ 0 →
 alone_holds o p h w = let z = alone_put o p h in (z.0, rw z.1 w)
 
 -- what is written for what the ended text asks is written for the text
-pub answers : {n m out ys : List ℕ} {s e : State} {r : ℕ} → Feeds n (32 ∷ []) s m e → (a : Request) × Requests m e a × Holds a r out → ys ≡ out →
-    (r ≤ length ys) × Answers n s (take r ys)
-answers f (a, q, h) e = rw e (h.0, λ text fed. rw (q text (f text fed)) h.1)
+pub answers : {n m ys : List ℕ} {s e : State} {t t' : Text} → Feeds n (32 ∷ []) s m e → (a : Request) × Requests m e a × WrittenIn a t t' →
+    ys ≡ t'.out.now → (t'.at ≤ length ys) × Answers n s (take t'.at ys)
+answers f (a, q, w) e = rw e (w.holds.0, λ text fed. rw (q text (f text fed)) w.holds.1)

@@ -9,6 +9,7 @@ use Rattle.checks.specs.declared.lent.Tables.{Tables}
 use Rattle.laws.specs.Put.{Put}
 use Rattle.printing.specs.Lines as lines
 use Rattle.printing.specs.declared.line.Said.{Said}
+use Rattle.printing.specs.declared.put.Text.{Text}
 use Rattle.reading.specs.Fed.{Fed}
 use Rattle.reading.specs.declared.State.{State}
 use Rattle.workbench.specs.Request.{Request, request, bad_input, out_of_range, too_large, to_plan, range_refusal, most_cells}
@@ -95,3 +96,12 @@ pub record RightLine (Right : List ℕ → Type 0) (before : List ℕ) (at : ℕ
 -- the first r bytes are what is written for this
 abbrev pub Holds : Request → ℕ → List ℕ → Type 0
 Holds a r out = (r ≤ length out) × WrittenFor a (take r out)
+
+-- a buffer with room for both lines, into which nothing was put so far
+abbrev pub Blank : Text → Type 0
+Blank t = (t.at ≡ 0) × (8704 ≤ length t.out.now)
+
+-- what was put into it is what is written for this
+pub record WrittenIn (a : Request) (before after : Text) : Type 0 where
+  pub same_buffer : after.out.ghost_name ≡ before.out.ghost_name
+  pub holds : Holds a after.at after.out.now

@@ -29,41 +29,54 @@ impl From<Refusal> for Unplanned {
     }
 }
 
-// What the first four numbers settle, by the checks of N, Q and law in their order, and then the size: the cells of one table, or why none
-// is planned.
-pub fn first_four(numbers: &[u32]) -> Result<usize, Unplanned>
-    requires { 8196 ≤ length numbers.now }
-    ensures { Heads numbers.now result }
-{
-    let scans = u64::from(numbers[0]);
-    let settings = u64::from(numbers[1]);
-    ranges(MOST_SCANS, scans, settings, no_law(u64::from(numbers[2])))?;
-    let cells = count(scans, settings);
-    if MOST_CELLS < cells {
-        return Err(Unplanned::TooLarge);
-    }
-    Ok(cells as usize)
+// What was taken of a text: how far it was read, and its numbers, in the room that those of the largest text take.
+#[derive(Clone, Copy)]
+pub struct Taken<'a> {
+    pub state: State,
+    pub numbers: &'a [u32],
+    ghost roomy: { 8196 ≤ length numbers.now },
 }
 
-// What is asked, of a text that a separator has ended: the first four numbers, if there are so many, and then whether the rest are the cells.
-pub fn judge(s: State, numbers: &[u32]) -> Result<usize, Unplanned>
-    requires { 8196 ≤ length numbers.now }
-    ensures { VerdictOf numbers.now s result }
-{
-    if s.taken < 4 {
-        return Err(Unplanned::BadInput);
+impl Taken<'_> {
+    // What the first four numbers settle, by the checks of N, Q and law in their order, and then the size: the cells of one table, or why none
+    // is planned.
+    pub fn first_four(&self) -> Result<usize, Unplanned>
+        ensures { Heads self.now.numbers.now result }
+    {
+        let scans = u64::from(self.numbers[0]);
+        let settings = u64::from(self.numbers[1]);
+        ranges(
+            MOST_SCANS,
+            scans,
+            settings,
+            no_law(u64::from(self.numbers[2])),
+        )?;
+        let cells = count(scans, settings);
+        if MOST_CELLS < cells {
+            return Err(Unplanned::TooLarge);
+        }
+        Ok(cells as usize)
     }
-    let cells = first_four(numbers)?;
-    if all_read(s, cells) {
-        return Ok(cells);
-    }
-    Err(Unplanned::BadInput)
-}
 
-// The cells are all there and nothing else: no word was left over, and the numbers are the first four and two tables.
-fn all_read(s: State, cells: usize) -> bool
-    requires { cells ≤ 4096 }
-    ensures { result ≡ (not s.more && eqb s.taken (4 + 2 * cells)) }
-{
-    !s.more && s.taken == 4 + 2 * cells
+    // What is asked, of a text that a separator has ended: the first four numbers, if there are so many, and then whether the rest are the cells.
+    pub fn judge(&self) -> Result<usize, Unplanned>
+        ensures { VerdictOf self.now.numbers.now self.now.state result }
+    {
+        if self.state.taken < 4 {
+            return Err(Unplanned::BadInput);
+        }
+        let cells = self.first_four()?;
+        if !self.all_read(cells) {
+            return Err(Unplanned::BadInput);
+        }
+        Ok(cells)
+    }
+
+    // The cells are all there and nothing else: no word was left over, and the numbers are the first four and two tables.
+    fn all_read(&self, cells: usize) -> bool
+        requires { cells ≤ 4096 }
+        ensures { result ≡ (not self.now.state.more && eqb self.now.state.taken (4 + 2 * cells)) }
+    {
+        !self.state.more && self.state.taken == 4 + 2 * cells
+    }
 }

@@ -6,10 +6,10 @@ mod lines;
 
 ghost use Rattle.std.specs.Prelude.{◌≡◌, true, ◌||◌, ◌&&◌, ◌≤◌, leb, length, take};
 ghost use Rattle.workbench.specs.Request.{Request};
-ghost use Rattle.workbench.specs.Parts.{Requests, Holds};
+ghost use Rattle.workbench.specs.Parts.{Requests, Blank, WrittenIn};
 ghost use Rattle.workbench.specs.Done.{settles, Decided, Answers};
 
-use crate::judge::{Unplanned, first_four, judge};
+use crate::judge::{Taken, Unplanned};
 use printing::put::Text;
 use reading::{State, feed};
 
@@ -20,18 +20,17 @@ pub fn enough(s: State, numbers: &[u32]) -> bool
     ensures value { result ≡ (s.more || (leb 4 s.taken && settles numbers.now)) }
     ensures decided { result ≡ true → Decided numbers.now s }
 {
-    s.more || (4 <= s.taken && first_four(numbers).is_err())
+    let taken = Taken { state: s, numbers };
+    s.more || (4 <= s.taken && taken.first_four().is_err())
 }
 
-// Puts the lines for the text whose numbers these are; a separator has ended it.
-fn put_answer(text: &mut Text, ended: State, numbers: &[u32])
-    requires in_bounds { 8196 ≤ length numbers.now }
-    requires in_bounds_2 { (text.old.at ≡ 0) × (8704 ≤ length text.old.out.now) }
-    ensures same_buffer { text.new.out.ghost_name ≡ text.old.out.ghost_name }
-    ensures asked { (a : Request) × Requests numbers.now ended a × Holds a text.new.at text.new.out.now }
+// Puts the lines for the text of which this was taken; a separator has ended it.
+fn put_answer(text: &mut Text, taken: &Taken)
+    requires { Blank text.old }
+    ensures { (a : Request) × Requests taken.now.numbers.now taken.now.state a × WrittenIn a text.old text.new }
 {
-    match judge(ended, numbers) {
-        Ok(cells) => lines::put_planned(text, numbers, cells),
+    match taken.judge() {
+        Ok(cells) => lines::put_planned(text, taken, cells),
         Err(Unplanned::OutOfRange(r)) => lines::put_refused(text, r),
         Err(Unplanned::BadInput) => text.put(b"bad input\n"),
         Err(Unplanned::TooLarge) => text.put(b"too large\n"),
@@ -45,7 +44,11 @@ pub fn answer(s: State, numbers: &mut [u32], out: &mut [u8]) -> usize
     ensures { (result ≤ length out.new) × Answers numbers.old s (take result out.new) }
 {
     let ended = feed(s, b" ", numbers);
+    let taken = Taken {
+        state: ended,
+        numbers,
+    };
     let mut text = Text { out, at: 0 };
-    put_answer(&mut text, ended, numbers);
+    put_answer(&mut text, &taken);
     text.at
 }

@@ -1,8 +1,9 @@
 // The lines that bench writes for the numbers that it has taken.
 ghost use Rattle.std.specs.Prelude.{◌≡◌, ◌+◌, ◌≤◌, length};
 ghost use Rattle.workbench.specs.Request.{out_of_range};
-ghost use Rattle.workbench.specs.Parts.{Planable, CallLine, RightLine, Holds, plan_requested};
+ghost use Rattle.workbench.specs.Parts.{Planable, CallLine, RightLine, Blank, WrittenIn, plan_requested};
 
+use crate::judge::Taken;
 use checks::lent::Tables;
 use planner::average::average_plan;
 use planner::minmax::minmax_plan;
@@ -31,12 +32,12 @@ fn put_call<A: Into<Said>, F: FnOnce(&Tables, u64, &mut [u8], &mut [u8]) -> A>(
 }
 
 // Both lines of a table that is planned: the first four numbers, and the cells of each table after them; with a weight of 1 for each scan.
-pub fn put_planned(text: &mut Text, numbers: &[u32], cells: usize)
-    requires in_bounds { (8196 ≤ length numbers.now) × Planable numbers.now cells }
-    requires in_bounds_2 { (text.old.at ≡ 0) × (8704 ≤ length text.old.out.now) }
-    ensures same_buffer { text.new.out.ghost_name ≡ text.old.out.ghost_name }
-    ensures lines { Holds (plan_requested numbers.now cells) text.new.at text.new.out.now }
+pub fn put_planned(text: &mut Text, taken: &Taken, cells: usize)
+    requires planable { Planable taken.now.numbers.now cells }
+    requires blank { Blank text.old }
+    ensures { WrittenIn (plan_requested taken.now.numbers.now cells) text.old text.new }
 {
+    let numbers = taken.numbers;
     let scans = u64::from(numbers[0]);
     let budget = u64::from(numbers[3]);
     let middle = 4 + cells;
@@ -56,9 +57,8 @@ pub fn put_planned(text: &mut Text, numbers: &[u32], cells: usize)
 
 // The refusal on both lines.
 pub fn put_refused(text: &mut Text, r: Refusal)
-    requires { (text.old.at ≡ 0) × (8704 ≤ length text.old.out.now) }
-    ensures same_buffer { text.new.out.ghost_name ≡ text.old.out.ghost_name }
-    ensures lines { Holds (out_of_range r) text.new.at text.new.out.now }
+    requires { Blank text.old }
+    ensures { WrittenIn (out_of_range r) text.old text.new }
 {
     text.put_line(b"ave", Said::Refused(r), b"");
     text.put_line(b"minmax", Said::Refused(r), b"");

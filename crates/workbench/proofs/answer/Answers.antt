@@ -4,4 +4,4 @@ use Rattle.workbench.proofs.LineLaws.{answers}
 use Rattle.workbench.proofs.answer.Goals as goal
 
 pub returns : goal.returns
-returns c = answers c.feed-ended.ensures.feeds c.put_answer.ensures.asked (search rules)
+returns c = answers c.feed-ended.ensures.feeds c.put_answer.ensures (search rules)

@@ -4,4 +4,4 @@ use Rattle.fits.specs.Reach.{ScanTaken}
 use Rattle.fits.proofs.step.step.Given as goal
 
 abbrev pub invariant-loop-p : goal.invariant-loop-p
-invariant-loop-p l = ScanTaken (Follows (law_of l.law) l.scan) l.rates l.settings l.at l.p l.least l.next
+invariant-loop-p l = ScanTaken (Follows (law_of l.asked.law) l.scan) l.asked.rates.now l.settings l.at l.p l.least l.next

@@ -1,5 +1,5 @@
 -- `imports::left::Left::next` meets its contract: what the line at the front says, and those behind it are left.
-use Rattle.std.proofs.Common.{◌≡◌, ◌∷◌, ◌-◌, ◌<◌, length, take, drop, sym, ap, ◌∙◌, arith, rules}
+use Rattle.std.proofs.Common.{◌≡◌, ◌∷◌, ◌-◌, length, take, drop, sym, ap, ◌∙◌, arith, rules}
 use Rattle.std.proofs.lemmas.List.{take_rest}
 use Rattle.lines.specs.Parts.{said}
 use Rattle.imports.specs.Left.{said_by}

@@ -1,8 +1,8 @@
--- `workbench::judge::first_four` meets its contract: numbers that passed the checks 1 to 3 are in their ranges.
+-- `workbench::judge::Taken::first_four` meets its contract: numbers that passed the checks 1 to 3 are in their ranges.
 use Rattle.std.proofs.Common.{sym}
 use Rattle.tables.specs.Limits.{most_scans}
 use Rattle.checks.proofs.PlanningLaws.{in_ranges}
-use Rattle.workbench.proofs.judge.first_four.Goals as goal
+use Rattle.workbench.proofs.judge.Taken.first_four.Goals as goal
 
 pub count-cells-requires : goal.count-cells-requires
 count-cells-requires c =

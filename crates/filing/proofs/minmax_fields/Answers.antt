@@ -1,6 +1,0 @@
--- `filing::minmax_fields` meets its contract: the fields that are defined.
-use mathlib.Core.Path.{refl}
-use Rattle.filing.proofs.minmax_fields.Goals as goal
-
-pub returns : goal.returns
-returns c = rw c.mark-weighted.ensures refl
