@@ -1,6 +1,6 @@
 // The average and the minmax plans of tables T and U under law 0, and of table V under laws 0 to 3, at some budgets, all weights 1, and of
-// table T under law 1 with four other pairs of weights and with 1 1, filed: each line is the number that comes back from the planning call (0: a plan), and for a plan the
-// length of its file and every byte of the buffer that the file was written to.
+// table T under law 1 with four other pairs of weights and with 1 1, filed: each line is the number that comes back from the planning call (0:
+// a plan), and for a plan the length of its file and every byte of the buffer that the file was written to.
 // What it must write was made by tests/second/filing_vectors.py.
 #![tactic(auto)]
 
@@ -44,16 +44,12 @@ fn put_filed<W: Write, F: FnOnce(&mut [u8], &mut [u8]) -> Result<Fields, Refusal
     end_line(out)
 }
 
-fn both<W: Write>(out: &mut W, t: &Tables, budget: u64) -> io::Result<()> {
+fn both<W: Write>(out: &mut W, tables: &Tables, budget: u64) -> io::Result<()> {
     put_filed(out, |plan, scratch| {
-        average_plan(t, budget, plan, scratch).map(|p| average_fields(
-            t.scans, t.settings, t.law, budget, t.weights, p,
-        ))
+        average_plan(tables, budget, plan, scratch).map(|p| average_fields(tables, budget, p))
     })?;
     put_filed(out, |plan, scratch| {
-        minmax_plan(t, budget, plan, scratch).map(|p| minmax_fields(
-            t.scans, t.settings, t.law, budget, t.weights, p,
-        ))
+        minmax_plan(tables, budget, plan, scratch).map(|p| minmax_fields(tables, budget, p))
     })
 }
 
