@@ -1,8 +1,8 @@
 // Groups of calls: the tables and the weights are made once, and each call gets them with its three buffers filled anew.
 use best::plan::best_plan;
-use promise::PlanAnswer;
+use checks::lent::Tables;
 use shown::answer::{end_line, put_answer};
-use shown::group::{Group, Origin, Tables};
+use shown::group::{Group, Origin};
 use shown::input::{number, place};
 use shown::lent::{fill, put_lent};
 use std::io;
@@ -15,7 +15,7 @@ const CHOICES_FROM: usize = 100;
 
 const TOTALS_FROM: usize = 2000000000;
 
-// What is lent, from group to group.
+// Room for what is lent, from group to group.
 #[derive(Drop)]
 pub struct Room<'a> {
     pub rates: &'a mut [u32],
@@ -26,41 +26,41 @@ pub struct Room<'a> {
     pub totals: &'a mut [u32],
 }
 
+// The buffers of a call.
+#[derive(Drop)]
+struct Lent<'a> {
+    plan: &'a mut [u8],
+    choices: &'a mut [u8],
+    totals: &'a mut [u32],
+}
+
+impl Lent<'_> {
+    fn refill(&mut self) {
+        fill(self.plan, PLAN_FROM);
+        fill(self.choices, CHOICES_FROM);
+        fill(self.totals, TOTALS_FROM);
+    }
+
+    // As the call left them.
+    fn put<W: Write>(&self, out: &mut W) -> io::Result<()> {
+        put_lent(out, "p", self.plan, PLAN_FROM)?;
+        put_lent(out, "s", self.choices, CHOICES_FROM)?;
+        put_lent(out, "t", self.totals, TOTALS_FROM)
+    }
+}
+
 // One call.
 fn one<R: Read, W: Write>(
     input: &mut R,
     out: &mut W,
-    t: &Tables,
-    plan: &mut [u8],
-    choices: &mut [u8],
-    totals: &mut [u32],
+    tables: &Tables,
+    lent: &mut Lent,
 ) -> io::Result<()> {
     let budget = number::<8>(input)?;
-    fill(plan, PLAN_FROM);
-    fill(choices, CHOICES_FROM);
-    fill(totals, TOTALS_FROM);
-    let answer = match best_plan(
-        t.scans,
-        t.settings,
-        t.law,
-        budget,
-        t.rates,
-        t.distortions,
-        t.weights,
-        plan,
-        choices,
-        totals,
-    ) {
-        PlanAnswer::Planned(t) => Ok(t),
-        PlanAnswer::Refused(r) => Err(r),
-    };
-    put_answer(
-        out,
-        answer.map(|best| [best.rate.0, best.distortion.0, best.peak]),
-    )?;
-    put_lent(out, "p", plan, PLAN_FROM)?;
-    put_lent(out, "s", choices, CHOICES_FROM)?;
-    put_lent(out, "t", totals, TOTALS_FROM)?;
+    lent.refill();
+    let answer = best_plan(tables, budget, lent.plan, lent.choices, lent.totals);
+    put_answer(out, answer.map(|t| [t.rate.0, t.distortion.0, t.peak]))?;
+    lent.put(out)?;
     end_line(out)
 }
 
@@ -83,15 +83,13 @@ pub fn group<R: Read, W: Write>(input: &mut R, out: &mut W, room: Room) -> io::R
     let t = place::<8>(input, totals.len())?;
     let count = number::<8>(input)?;
     let tables = group.tables(input)?;
+    let mut lent = Lent {
+        plan: &mut plan[..p],
+        choices: &mut choices[..s],
+        totals: &mut totals[..t],
+    };
     for _ in 0..count {
-        one(
-            input,
-            out,
-            &tables,
-            &mut plan[..p],
-            &mut choices[..s],
-            &mut totals[..t],
-        )?;
+        one(input, out, &tables, &mut lent)?;
     }
     Ok(true)
 }

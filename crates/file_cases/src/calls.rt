@@ -1,8 +1,8 @@
 // The two calls, each with a buffer filled anew, and with what it answers and what the buffer holds then written out.
 use crate::change::{fields, runs};
 use keys::cost::{Dist, Rate};
-use planfile::read::{PlanRead, ReadAnswer, read_plan};
-use planfile::write::{WriteAnswer, write_plan};
+use planfile::read::{PlanRead, read_plan};
+use planfile::write::write_plan;
 use rules::Fields;
 use shown::answer::{end_line, put_answer};
 use shown::input::{number, place};
@@ -21,20 +21,6 @@ pub struct Kept {
     pub given: [u8; 2048],
     pub told: [u64; 12],
     pub lent: [u8; 4608],
-}
-
-fn of_read(a: ReadAnswer) -> Result<PlanRead, Refusal> {
-    match a {
-        ReadAnswer::Read(p) => Ok(p),
-        ReadAnswer::Refused(r) => Err(r),
-    }
-}
-
-fn of_write(a: WriteAnswer) -> Result<u64, Refusal> {
-    match a {
-        WriteAnswer::Written(p) => Ok(p),
-        WriteAnswer::Refused(r) => Err(r),
-    }
 }
 
 // What is read of a plan: the fields that every version has, the version, and the mark of weights.
@@ -108,7 +94,7 @@ impl Kept {
         let lent = &mut self.lent[..];
         let lent = &mut lent[..n];
         fill(lent, FROM);
-        let answer = of_read(read_plan(file, lent));
+        let answer = read_plan(file, lent);
         put_called(out, answer.map(numbers), lent)
     }
 
@@ -122,7 +108,7 @@ impl Kept {
         let lent = &mut self.lent[..];
         let lent = &mut lent[..n];
         fill(lent, FROM);
-        let answer = of_write(write_plan(told, given, lent));
+        let answer = write_plan(told, given, lent);
         put_called(out, answer.map(|length| [length]), lent)
     }
 

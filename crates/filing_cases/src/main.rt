@@ -1,17 +1,16 @@
 // The average and the minmax plans of tables T and U under law 0, and of table V under laws 0 to 3, at some budgets, all weights 1, and of
-// table T under law 1 with four other pairs of weights and with 1 1, filed: each line is the number that comes back from the planning call (0: a plan), and for a plan the
-// length of its file and every byte of the buffer that the file was written to.
+// table T under law 1 with four other pairs of weights and with 1 1, filed: each line is the number that comes back from the planning call (0:
+// a plan), and for a plan the length of its file and every byte of the buffer that the file was written to.
 // What it must write was made by tests/second/filing_vectors.py.
 #![tactic(auto)]
 
+use checks::lent::Tables;
 use filing::{average_fields, minmax_fields};
-use planfile::write::{WriteAnswer, write_plan};
+use planfile::write::write_plan;
 use planner::average::average_plan;
 use planner::minmax::minmax_plan;
-use promise::{AverageAnswer, AveragePlan, MinmaxAnswer, MinmaxPlan};
 use rules::Fields;
 use shown::answer::{end_line, put_answer, put_refusal};
-use shown::group::Tables;
 use shown::lent::{fill, put_lent};
 use std::io;
 use std::io::Write;
@@ -20,32 +19,11 @@ use tables::refusal::Refusal;
 // Where the pattern of the file buffer before a call starts.
 const FROM: usize = 13;
 
-fn of_write(a: WriteAnswer) -> Result<u64, Refusal> {
-    match a {
-        WriteAnswer::Written(p) => Ok(p),
-        WriteAnswer::Refused(r) => Err(r),
-    }
-}
-
-fn of_minmax(a: MinmaxAnswer) -> Result<MinmaxPlan, Refusal> {
-    match a {
-        MinmaxAnswer::Planned(t) => Ok(t),
-        MinmaxAnswer::Refused(r) => Err(r),
-    }
-}
-
-fn of_average(a: AverageAnswer) -> Result<AveragePlan, Refusal> {
-    match a {
-        AverageAnswer::Planned(t) => Ok(t),
-        AverageAnswer::Refused(r) => Err(r),
-    }
-}
-
 // The file of a plan, written to a buffer a little longer than needed.
 fn put_file<W: Write>(out: &mut W, fields: Fields, plan: &[u8]) -> io::Result<()> {
     let mut file = [0u8; 1029];
     fill(&mut file, FROM);
-    let written = of_write(write_plan(fields, plan, &mut file));
+    let written = write_plan(fields, plan, &mut file);
     put_answer(out, written.map(|length| [length]))?;
     put_lent(out, "b", &file, FROM)
 }
@@ -66,34 +44,12 @@ fn put_filed<W: Write, F: FnOnce(&mut [u8], &mut [u8]) -> Result<Fields, Refusal
     end_line(out)
 }
 
-fn both<W: Write>(out: &mut W, t: &Tables, budget: u64) -> io::Result<()> {
+fn both<W: Write>(out: &mut W, tables: &Tables, budget: u64) -> io::Result<()> {
     put_filed(out, |plan, scratch| {
-        let answer = average_plan(
-            t.scans,
-            t.settings,
-            t.law,
-            budget,
-            t.rates,
-            t.distortions,
-            t.weights,
-            plan,
-            scratch,
-        );
-        of_average(answer).map(|m| average_fields(t.scans, t.settings, t.law, budget, t.weights, m))
+        average_plan(tables, budget, plan, scratch).map(|p| average_fields(tables, budget, p))
     })?;
     put_filed(out, |plan, scratch| {
-        let answer = minmax_plan(
-            t.scans,
-            t.settings,
-            t.law,
-            budget,
-            t.rates,
-            t.distortions,
-            t.weights,
-            plan,
-            scratch,
-        );
-        of_minmax(answer).map(|m| minmax_fields(t.scans, t.settings, t.law, budget, t.weights, m))
+        minmax_plan(tables, budget, plan, scratch).map(|p| minmax_fields(tables, budget, p))
     })
 }
 

@@ -1,25 +1,24 @@
 // Groups of calls: the tables are made once for all calls of a group.
-use fits::call::{FitsAnswer, fits};
+use checks::lent::Tables;
+use fits::asked::Asked;
+use fits::call::fits;
 use shown::answer::{end_line, put_answer};
-use shown::group::{Group, Origin, Tables};
+use shown::group::{Group, Origin};
 use shown::input::number;
 use std::io;
 use std::io::{Read, Write};
-use tables::refusal::Refusal;
-
-fn answer(a: FitsAnswer) -> Result<bool, Refusal> {
-    match a {
-        FitsAnswer::Yes => Ok(true),
-        FitsAnswer::No => Ok(false),
-        FitsAnswer::Refused(r) => Err(r),
-    }
-}
 
 // One call.
 fn one<R: Read, W: Write>(input: &mut R, out: &mut W, t: &Tables) -> io::Result<()> {
-    let budget = number::<8>(input)?;
-    let fit = answer(fits(t.scans, t.settings, t.law, budget, t.rates, t.distortions));
-    put_answer(out, fit.map(|yes| [u64::from(yes)]))?;
+    let asked = Asked {
+        scans: t.scans,
+        settings: t.settings,
+        law: t.law,
+        budget: number::<8>(input)?,
+        rates: t.rates,
+        distortions: t.distortions,
+    };
+    put_answer(out, fits(&asked).map(|yes| [u64::from(yes)]))?;
     end_line(out)
 }
 

@@ -1,7 +1,6 @@
 // The two calls: what is lent is made, the call answers, and a line says what it answered and what it left.
 use crate::show::Show;
-use checks::stage::Stage;
-use exports::export::{ExportAnswer, export};
+use exports::export::export;
 use imports::import::import;
 use shown::answer::{end_line, put_answer};
 use shown::input::{bytes, number, place, read_full};
@@ -9,7 +8,6 @@ use shown::lent::{fill, put_lent};
 use shown::source::Source;
 use std::io;
 use std::io::{Read, Write};
-use tables::refusal::Refusal;
 
 // Where the cells of the two tables before an import start, and the pattern of the text before an export.
 const RATES_FROM: usize = 2000000000;
@@ -18,7 +16,7 @@ const DISTORTIONS_FROM: usize = 3000000000;
 
 const TEXT_FROM: usize = 13;
 
-// What is lent, from call to call.
+// Room for what is lent, from call to call; or so much of it as one call is lent.
 #[derive(Drop)]
 pub struct Room<'a> {
     pub rates: &'a mut [u32],
@@ -35,20 +33,6 @@ struct Case {
     settings: u64,
 }
 
-fn of_import(s: Stage) -> Result<(), Refusal> {
-    match s {
-        Stage::Passed => Ok(()),
-        Stage::Stopped(r) => Err(r),
-    }
-}
-
-fn of_export(a: ExportAnswer) -> Result<u64, Refusal> {
-    match a {
-        ExportAnswer::Exported(n) => Ok(n),
-        ExportAnswer::Refused(r) => Err(r),
-    }
-}
-
 // A piece of the input takes the place of what is kept there, as far as there is room.
 fn piece<R: Read>(input: &mut R, text: &mut [u8]) -> io::Result<()> {
     let start = place::<4>(input, text.len())?;
@@ -62,11 +46,14 @@ fn import_call<R: Read, W: Write>(
     input: &mut R,
     out: &mut W,
     case: Case,
-    rates: &mut [u32],
-    distortions: &mut [u32],
-    text: &mut [u8],
-    scratch: &mut [u8],
+    room: Room,
 ) -> io::Result<()> {
+    let Room {
+        rates,
+        distortions,
+        text,
+        scratch,
+    } = room;
     let s = place::<4>(input, scratch.len())?;
     let from = number::<1>(input)? as usize;
     let t = place::<4>(input, text.len())?;
@@ -75,14 +62,14 @@ fn import_call<R: Read, W: Write>(
     fill(rates, RATES_FROM);
     fill(distortions, DISTORTIONS_FROM);
     fill(scratch, from);
-    let answer = of_import(import(
+    let answer = import(
         case.scans,
         case.settings,
         &text[..t],
         rates,
         distortions,
         scratch,
-    ));
+    );
     put_answer(out, answer.map(|_| []))?;
     case.show.put(out, "r", rates, RATES_FROM)?;
     case.show.put(out, "d", distortions, DISTORTIONS_FROM)?;
@@ -100,17 +87,21 @@ fn export_call<R: Read, W: Write>(
     input: &mut R,
     out: &mut W,
     case: Case,
-    rates: &mut [u32],
-    distortions: &mut [u32],
-    text: &mut [u8],
+    room: Room,
 ) -> io::Result<()> {
+    let Room {
+        rates,
+        distortions,
+        text,
+        ..
+    } = room;
     let t = place::<4>(input, text.len())?;
     let source = Source::from(number::<1>(input)?);
     source.make(input, rates, cell)?;
     source.make(input, distortions, cell)?;
     let text = &mut text[..t];
     fill(text, TEXT_FROM);
-    let answer = of_export(export(case.scans, case.settings, rates, distortions, text));
+    let answer = export(case.scans, case.settings, rates, distortions, text);
     put_answer(out, answer.map(|length| [length]))?;
     case.show.put(out, "t", text, TEXT_FROM)?;
     end_line(out)
@@ -143,11 +134,15 @@ pub fn call<R: Read, W: Write>(input: &mut R, out: &mut W, room: Room) -> io::Re
     };
     let r = place::<4>(input, rates.len())?;
     let d = place::<4>(input, distortions.len())?;
-    let rates = &mut rates[..r];
-    let distortions = &mut distortions[..d];
+    let room = Room {
+        rates: &mut rates[..r],
+        distortions: &mut distortions[..d],
+        text,
+        scratch,
+    };
     match which {
-        Which::Import => import_call(input, out, case, rates, distortions, text, scratch)?,
-        Which::Export => export_call(input, out, case, rates, distortions, text)?,
+        Which::Import => import_call(input, out, case, room)?,
+        Which::Export => export_call(input, out, case, room)?,
     }
     Ok(true)
 }

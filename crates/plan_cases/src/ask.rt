@@ -1,15 +1,14 @@
 // The four calls, each with what it answers written out.
+use crate::lend::Lent;
+use checks::lent::Tables;
 use planner::average::average_plan;
 use planner::ceiling::ceiling_plan;
 use planner::minmax::minmax_plan;
 use planner::multiplier::multiplier_plan;
-use promise::{AverageAnswer, AveragePlan, MinmaxAnswer, MinmaxPlan, PlanAnswer};
 use shown::answer::put_answer;
-use shown::group::Tables;
 use shown::input::number;
 use std::io;
 use std::io::{Read, Write};
-use tables::refusal::Refusal;
 use walk::Totals;
 
 // What is asked.
@@ -19,27 +18,6 @@ pub enum Ask {
     Multiplier { n: u64, d: u64 },
     Minmax { budget: u64 },
     Average { budget: u64 },
-}
-
-fn of_plan(a: PlanAnswer) -> Result<Totals, Refusal> {
-    match a {
-        PlanAnswer::Planned(t) => Ok(t),
-        PlanAnswer::Refused(r) => Err(r),
-    }
-}
-
-fn of_minmax(a: MinmaxAnswer) -> Result<MinmaxPlan, Refusal> {
-    match a {
-        MinmaxAnswer::Planned(t) => Ok(t),
-        MinmaxAnswer::Refused(r) => Err(r),
-    }
-}
-
-fn of_average(a: AverageAnswer) -> Result<AveragePlan, Refusal> {
-    match a {
-        AverageAnswer::Planned(t) => Ok(t),
-        AverageAnswer::Refused(r) => Err(r),
-    }
 }
 
 fn totals(t: Totals) -> [u64; 3] {
@@ -63,89 +41,32 @@ impl Ask {
         })
     }
 
-    pub fn put<W: Write>(
-        self,
-        out: &mut W,
-        t: &Tables,
-        plan: &mut [u8],
-        scratch: &mut [u8],
-    ) -> io::Result<()> {
+    pub fn put<W: Write>(self, out: &mut W, tables: &Tables, lent: &mut Lent) -> io::Result<()> {
+        let plan = &mut *lent.plan;
+        let scratch = &mut *lent.scratch;
         match self {
-            Ask::Ceiling { ceiling } => {
-                let answer = ceiling_plan(
-                    t.scans,
-                    t.settings,
-                    t.law,
-                    ceiling,
-                    t.rates,
-                    t.distortions,
-                    t.weights,
-                    plan,
-                    scratch,
-                );
-                put_answer(out, of_plan(answer).map(totals))
-            }
-            Ask::Multiplier { n, d } => {
-                let answer = multiplier_plan(
-                    t.scans,
-                    t.settings,
-                    t.law,
-                    n,
-                    d,
-                    t.rates,
-                    t.distortions,
-                    t.weights,
-                    plan,
-                    scratch,
-                );
-                put_answer(out, of_plan(answer).map(totals))
-            }
-            Ask::Minmax { budget } => {
-                let answer = minmax_plan(
-                    t.scans,
-                    t.settings,
-                    t.law,
-                    budget,
-                    t.rates,
-                    t.distortions,
-                    t.weights,
-                    plan,
-                    scratch,
-                );
-                put_answer(
-                    out,
-                    of_minmax(answer).map(|m| [
-                        m.ceiling,
-                        m.totals.rate.0,
-                        m.totals.distortion.0,
-                        m.totals.peak,
-                    ]),
-                )
-            }
-            Ask::Average { budget } => {
-                let answer = average_plan(
-                    t.scans,
-                    t.settings,
-                    t.law,
-                    budget,
-                    t.rates,
-                    t.distortions,
-                    t.weights,
-                    plan,
-                    scratch,
-                );
-                put_answer(
-                    out,
-                    of_average(answer).map(|a| [
-                        a.n,
-                        a.d,
-                        a.totals.rate.0,
-                        a.totals.distortion.0,
-                        a.totals.peak,
-                        a.floor.0,
-                    ]),
-                )
-            }
+            Ask::Ceiling { ceiling } => put_answer(
+                out,
+                ceiling_plan(tables, ceiling, plan, scratch).map(totals),
+            ),
+            Ask::Multiplier { n, d } => put_answer(
+                out,
+                multiplier_plan(tables, n, d, plan, scratch).map(totals),
+            ),
+            Ask::Minmax { budget } => put_answer(
+                out,
+                minmax_plan(tables, budget, plan, scratch).map(|p| {
+                    let t = p.totals;
+                    [p.ceiling, t.rate.0, t.distortion.0, t.peak]
+                }),
+            ),
+            Ask::Average { budget } => put_answer(
+                out,
+                average_plan(tables, budget, plan, scratch).map(|p| {
+                    let t = p.totals;
+                    [p.n, p.d, t.rate.0, t.distortion.0, t.peak, p.floor.0]
+                }),
+            ),
         }
     }
 }

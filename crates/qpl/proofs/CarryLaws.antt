@@ -1,62 +1,52 @@
 -- What a refusal carries is below 2 ^ 32, whichever call gives it, and what a call answers can be told. Assumes nothing.
-use mathlib.Core.Path.{◌≡◌, refl, sym, ap, ◌∙◌}
-use mathlib.Core.Bool.{Bool, true, false, cond, ◌&&◌}
-use mathlib.Core.Option.{Option, none, some}
+use mathlib.Core.Path.{◌≡◌, refl, ap}
+use mathlib.Core.Bool.{Bool, true, false, cond}
+use mathlib.Core.Option.{Option, none}
 use mathlib.Core.List.{List, [], ◌∷◌}
 use Prim.Native.Nat.{ℕ, ◌*◌, ◌-◌, ◌/◌, ◌≤◌, ◌<◌, ◌^◌}
 use native.Mathlib.Omega.{arith}
-use lib.Dec.{eqb, ltb}
+use lib.Dec.{ltb}
 use lib.ListN.{length, get_or}
-use borrow.Author.Tests.{ltb-false, ne_eqb}
+use borrow.Author.Tests.{ltb-false}
+use Rattle.std.specs.Prelude.{Result, Ok, Err, Option as StdOption, Some, MatchOption}
+use Rattle.std.specs.Result.{result_err}
 use Rattle.tables.specs.declared.refusal.Refusal.{Refusal}
 use Rattle.tables.specs.declared.refusal.Refusal.TheVariants as refusal
-use Rattle.tables.specs.Refusals.{Reply, refused, number_of, carried_by}
+use Rattle.tables.specs.Refusals.{Reply, refused, carried_by, ended}
 use Rattle.criteria.specs.Choice.{Problem}
 use Rattle.tables.specs.Limits.{most_scans}
-use Rattle.tables.specs.Tables.{cells, scratch_need}
-use Rattle.checks.specs.Planning.{Asked, UnsoundBy, early, illegal, channels_out, scans_out, settings_out}
-use Rattle.checks.proofs.GiveLaws.{Gives, given, gives_when, gives_else, gives_first, gives_found}
+use Rattle.checks.specs.Planning.{Asked, UnsoundBy, early, illegal}
+use Rattle.checks.proofs.GiveLaws.{Gives, given, gives_when, gives_else, gives_found}
 use Rattle.checks.proofs.PlanningLaws.{early_gives, early_fronted, sizes_exact}
 use Rattle.rules.proofs.FieldLaws.{rules_give}
 use Rattle.tables.specs.Law.{allows, law_out}
 use Rattle.rules.specs.Rules.{header_rules}
 use Rattle.rules.specs.declared.Faults.{Faults}
-use Rattle.checks.specs.Checks.{first_refusal, or_else, or_answer, first_from, found, when}
-use Rattle.room.specs.Room.{room_checks, room_of}
+use Rattle.checks.specs.Checks.{first_refusal, or_answer, first_from, found, when}
 use Rattle.checks.proofs.RangeLaws.{in_range}
-use Rattle.laws.proofs.Tests.{neither}
+use Rattle.laws.proofs.Tests.{never, neither}
 use Rattle.tables.proofs.CellLaws.{cells_small}
-use Rattle.tables.proofs.RefusalLaws.{never_zero}
 use Rattle.rules.specs.declared.Fields.{Fields}
 use Rattle.blocks.specs.Letters.{version_of}
 use Rattle.blocks.specs.File.{entry_at, file_length}
 use Rattle.entries.specs.Entries.{entry_broken}
 use Rattle.blocks.specs.Blocks.{length_out, block_broken, bad_block}
 use Rattle.planfile.specs.Reading.{bad_entry_under, broken_field_under, read_refusal_under, bad_entry, broken_field, fields_of, faults_of, read_refusal, read_of, plan_read, read_values}
-use Rattle.planfile.specs.Writing.{no_faults, write_short, write_refusal_under, write_refusal, write_of}
-use Rattle.checks.proofs.CheckLaws.{none_else, none_when}
+use Rattle.planfile.specs.Writing.{no_faults, write_short, write_refusal_under, write_refusal, write_of, write_reply}
+use Rattle.checks.proofs.CheckLaws.{none_when}
 use Rattle.planfile.proofs.ReadLaws.{two_lengths}
 use Rattle.planfile.proofs.WriteLaws.{scans_inside}
 use Rattle.planfile.proofs.Accepted.{passed}
 use Rattle.promise.specs.Promise.{PromiseOver, unsound, no_sequence, none_within, planned}
 use Rattle.telling.specs.Told.{lent, word_of}
-use Rattle.qpl.specs.Surface.{room_told, read_bytes}
+use Rattle.lastly.proofs.CarryLaws.{Little, refusal_tellable, or_tellable}
+use Rattle.qpl.specs.Surface.{read_bytes}
 use Rattle.telling.specs.Parts.{Tellable}
 use Rattle.telling.proofs.AnswerLaws.{tellable_refusal, tellable_as}
-
--- a refusal carries less than 2 ^ 32
-abbrev pub Little : Refusal → Type 0
-Little r = carried_by r < 2 ^ 32
 
 -- the refusals of each call
 rules_light : (lawless : Bool) (m : Faults) (f : Fields) → Gives Little (first_refusal (header_rules lawless m f))
 rules_light lawless m f = rules_give Little lawless m f (λ byte h. omega arith)
-
-pub room_light : (C N Q : ℕ) → Gives Little (first_refusal (room_checks C N Q))
-room_light C N Q = gives_first Little (room_checks C N Q) (
-  gives_when Little (channels_out C) refusal.Channels (omega arith),
-  (gives_when Little (scans_out N) refusal.Scans (omega arith), (gives_when Little (settings_out Q) refusal.Settings (omega arith), tt)),
-)
 
 -- a block's number is below 3, and an entry's below 2,016
 pub read_light : (file : List ℕ) (room : ℕ) → Gives Little (read_refusal file room)
@@ -92,13 +82,6 @@ unsound_light {most} {further} {short} {a} h f (illegal e l) =
     let p = early_fronted most further short a e in
     omega (arith, l.inside, (sizes_exact a p.lengths).0, cells_small {N = a.N} {Q = a.Q} (omega (arith, p.scans)) p.settings)
 
-refusal_tellable : {reply : Reply} {n : ℕ} (r : Refusal) → reply ≡ refused r → carried_by r < 2 ^ 32 → Tellable reply n
-refusal_tellable r e h = rw e (record { holds = λ z. absurd (never_zero r z); small = λ z. h })
-
-pub or_tellable : (o : Option Refusal) (v : List ℕ) (n : ℕ) → Gives Little o → (o ≡ none → 8 * length v ≤ n) → Tellable (or_answer o v) n
-or_tellable none v n l h = record { holds = λ e. h refl; small = λ ne. absurd (ne refl) }
-or_tellable (some r) v n l h = refusal_tellable r refl l
-
 -- where a setting has room, the answer has
 lent_some : (need answer room : ℕ) → 1 ≤ lent need answer room → need ≤ answer
 lent_some need answer room = of (ltb answer need) (ltb-false answer need)
@@ -132,37 +115,20 @@ unfolding write_of
 write_carries f settings room r e = tellable_refusal r e
     (or_tellable (write_refusal f settings room) (file_length f.scans ∷ []) 8 (write_light f settings room) (λ z. omega arith))
 
--- one more test behind the checks of a call
-pub more_check : (o : Option Refusal) (t : Bool) (r : Refusal) (v : List ℕ) →
-    or_answer (or_else o (when t r)) v ≡ cond (eqb (or_answer o v).number 0 && t) (refused r) (or_answer o v)
-more_check none true r v = refl
-more_check none false r v = refl
-more_check (some s) t r v = rw (ne_eqb (number_of s) 0 (never_zero s)) refl
+-- a call that was refused with this
+pub was_refused : {T : Type 0} (told : Result T Refusal) {e : StdOption Refusal} {r : Refusal} → e ≡ result_err told → e ≡ Some r → told ≡ Err r
+was_refused (Ok x) e f = never cc
+was_refused (Err r) e f = ap Err cc
 
--- the room question's answer buffer is such a test
-pub room_last : (C N Q n : ℕ) (o : Option Refusal) {p : Option Refusal} (v : List ℕ) → or_answer o v ≡ room_of C N Q →
-    p ≡ or_else o (when (ltb n 24) refusal.Buffer) → or_answer p v ≡ room_told C N Q n
-unfolding room_told
-room_last C N Q n o v e f =
-    ap (λ x. or_answer x v) f
-    ∙ more_check o (ltb n 24) refusal.Buffer v
-    ∙ ap (λ (reply : Reply). cond (eqb reply.number 0 && ltb n 24) (refused refusal.Buffer) reply) e
-
-pub room_tellable : (C N Q n : ℕ) → Tellable (room_told C N Q n) n
-unfolding room_of
-room_tellable C N Q n =
-    let o = first_refusal (room_checks C N Q) in
-    let short = when (ltb n 24) refusal.Buffer in
-    let v : List ℕ = cells N Q ∷ 4 * C * cells N Q ∷ scratch_need N Q ∷ [] in
-    tellable_as (sym (room_last C N Q n o v refl refl))
-    (or_tellable (or_else o short) v n
-    (gives_else Little o short (room_light C N Q) (λ e. gives_when Little (ltb n 24) refusal.Buffer (omega arith)))
-    (λ e. ltb-false n 24 (none_when (ltb n 24) refusal.Buffer (none_else o short e).1)))
-
--- what goes back of an import: 0, or the refusal's word
-pub import_word : (o : Option Refusal) → o ≡ none → 0 ≡ word_of (or_answer o [])
+-- what goes back of a call that answers nothing: 0, or the word of its refusal
+pub import_back : (told : Result (Unit {0}) Refusal) {e : StdOption Refusal} {w : ℕ} → e ≡ result_err told → MatchOption e (w ≡ 0) (λ r. w ≡ word_of (refused r)) →
+    w ≡ word_of (or_answer (ended told) [])
 unfolding word_of
-import_word o e = sym (ap (λ (x : Option Refusal). word_of (or_answer x [])) e)
+import_back (Ok x) e m = rw e at m
+import_back (Err r) e m = rw e at m
 
-pub import_refused : (o : Option Refusal) {r : Refusal} {w : ℕ} → o ≡ some r → w ≡ word_of (refused r) → w ≡ word_of (or_answer o [])
-import_refused o e h = h ∙ sym (ap (λ (x : Option Refusal). word_of (or_answer x [])) e)
+pub write_back : (told : Result ℕ Refusal) {e : StdOption Refusal} {w : ℕ} → e ≡ result_err told → MatchOption e (w ≡ 0) (λ r. w ≡ word_of (refused r)) →
+    w ≡ word_of (write_reply told)
+unfolding word_of
+write_back (Ok n) e m = rw e at m
+write_back (Err r) e m = rw e at m

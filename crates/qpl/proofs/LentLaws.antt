@@ -1,12 +1,10 @@
 -- A call over the front of a lent buffer is a call over the buffer, and what a planning call answers is told. Assumes nothing.
-use Rattle.promise.specs.Answers.{PlanAnswer}
-use mathlib.Core.Path.{◌≡◌, refl, sym, ap, ◌∙◌}
+use mathlib.Core.Path.{◌≡◌, refl, ap, ◌∙◌}
 use mathlib.Core.Bool.{Bool}
 use mathlib.Core.Option.{Option, none, some}
-use mathlib.Core.List.{List, ◌++◌, append_assoc}
+use mathlib.Core.List.{List, ◌++◌}
 use Prim.Native.Nat.{ℕ, ◌*◌, ◌≤◌}
-use lib.ListN.{length, take, drop, take-append-drop}
-use lib.Seq.{drop-append-le, length-take-le}
+use lib.ListN.{length, take, drop}
 use native.Mathlib.Omega.{arith}
 use lib.Dec.{ltb}
 use Rattle.criteria.specs.Choice.{Problem}
@@ -17,11 +15,10 @@ use Rattle.tables.specs.Refusals.{Reply}
 use Rattle.planfile.specs.Reading.{entries, fields_of, read_refusal, settings_after}
 use Rattle.blocks.specs.File.{entry_at}
 use Rattle.planfile.proofs.Accepted.{passed}
+use Rattle.promise.specs.Answers.{PlanAnswer}
 use Rattle.promise.specs.Promise.{PromiseOver, Promise, unsound, no_sequence, none_within, planned, plan_reply}
 use Rattle.tables.specs.Law.{Law}
 use Rattle.checks.specs.Planning.{Asked, asking_under}
-use Rattle.exports.specs.Export.{export_text, export_refusal, text_after}
-use Rattle.exports.proofs.ExportLaws.{export_room}
 use Rattle.checks.proofs.GiveLaws.{Gives, gives_when}
 use Rattle.checks.proofs.PlanningLaws.{sound_fit, sound_plan}
 use Rattle.best.specs.Best.{BestPromise}
@@ -30,19 +27,9 @@ use Rattle.telling.specs.Told.{Told, lent}
 use Rattle.telling.specs.Parts.{Tellable}
 use Rattle.telling.proofs.AnswerLaws.{tellable_as, told_as}
 use Rattle.qpl.specs.Surface.{Tells}
-use Rattle.qpl.proofs.CarryLaws.{Little, unsound_light, promise_tellable}
-
--- a buffer whose front stays the same stays the same
-same_front : (room : ℕ) (l : List ℕ) {p : List ℕ} → p ≡ take room l → p ++ drop room l ≡ l
-same_front room l e = ap (λ (x : List ℕ). x ++ drop room l) e ∙ take-append-drop room l
-
--- what is handed to the front is handed to the buffer
-handed_front : (room n : ℕ) (t l : List ℕ) {p : List ℕ} → n ≤ length (take room l) → p ≡ t ++ drop n (take room l) →
-    p ++ drop room l ≡ t ++ drop n l
-handed_front room n t l h e =
-    ap (λ (x : List ℕ). x ++ drop room l) e
-    ∙ append_assoc t (drop n (take room l)) (drop room l)
-    ∙ ap (λ (x : List ℕ). t ++ x) (sym (drop-append-le n (take room l) (drop room l) h) ∙ ap (drop n) (take-append-drop room l))
+use Rattle.lastly.proofs.CarryLaws.{Little}
+use Rattle.lastly.proofs.FrontLaws.{same_front, handed_front, front_length}
+use Rattle.qpl.proofs.CarryLaws.{unsound_light, promise_tellable}
 
 -- a planning call
 pub promise_whole : {a : Asked} {Refused : Refusal → Type 0} {Passed : Type 0} {P : Problem} {within : List ℕ → Type 0} {Plan : List ℕ → List ℕ → Type 0}
@@ -53,10 +40,6 @@ promise_whole room plan h (unsound {r = r} u e f g) = unsound {r = r} u e (same_
 promise_whole room plan h (no_sequence o n e f g) = no_sequence o n e (same_front room plan f) g
 promise_whole room plan h (none_within o n e f g) = none_within o n e (same_front room plan f) g
 promise_whole {a = a} room plan h (planned o t v q e f g) = planned o t v q e (handed_front room a.N t plan (h o) f) g
-
--- the front of a buffer has the room that is lent
-pub front_length : {room m : ℕ} (l : List ℕ) → (room ≡ m) × (room ≤ length l) → length (take room l) ≡ m
-front_length {room} l h = length-take-le room l h.1 ∙ h.0
 
 -- A planning call over the room that is lent: `given` is its answer, and `reply` is told of it.
 module _ {A : Type 0} (reply_of : A → Reply) (given : A) (need : ℕ) (answer plan : List ℕ) {further : Option Refusal} {lawless : Bool} {law : Law} {N Q S room : ℕ}
@@ -111,16 +94,3 @@ read_whole file settings room {p = p} e f =
     of none g f = handed_front room (fields_of file).scans (entries (entry_at file) 0 (fields_of file).scans) settings
         (passed file (length (take room settings)) g).enough f
     of (some r) g f = same_front room settings f
-
--- the text of an export
-pub text_whole : (N Q : ℕ) (rates distortions text : List ℕ) (room : ℕ) {m : ℕ} {p : List ℕ} → length (take room text) ≡ m →
-    p ≡ text_after (export_refusal N Q rates distortions (length (take room text))) N Q rates distortions (take room text) →
-    p ++ drop room text ≡ text_after (export_refusal N Q rates distortions m) N Q rates distortions text
-text_whole N Q rates distortions text room {p = p} e f =
-    of (export_refusal N Q rates distortions (length (take room text))) refl f
-    ∙ ap (λ (k : ℕ). text_after (export_refusal N Q rates distortions k) N Q rates distortions text) e
-  where
-    of : (o : Option Refusal) → export_refusal N Q rates distortions (length (take room text)) ≡ o → p ≡ text_after o N Q rates distortions (take room text) →
-        p ++ drop room text ≡ text_after o N Q rates distortions text
-    of none g f = handed_front room (length (export_text N Q rates distortions)) (export_text N Q rates distortions) text (export_room N Q rates distortions (length (take room text)) g) f
-    of (some r) g f = same_front room text f

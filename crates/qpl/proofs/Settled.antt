@@ -9,6 +9,7 @@ use native.Mathlib.Omega.{arith}
 use lib.Dec.{ltb}
 use lib.ListN.{length}
 use borrow.Author.Tests.{lt-ltb, ne_eqb}
+use Rattle.std.specs.Prelude.{Ok, Err}
 use Rattle.tables.specs.declared.refusal.Refusal.{Refusal}
 use Rattle.tables.specs.declared.refusal.Refusal.TheVariants as refusal
 use Rattle.tables.specs.Limits.{most_scans, most_short_scans}
@@ -27,9 +28,7 @@ use Rattle.rules.proofs.FieldLaws.{rules_hold}
 use Rattle.promise.specs.Promise.{CeilingPromise, MultiplierPromise, MinmaxPromise, AveragePromise, plan_reply, minmax_reply, average_reply}
 use Rattle.promise.proofs.Unique.{ceiling_settled, multiplier_settled, minmax_settled, average_settled}
 use Rattle.best.specs.Best.{choices_need, totals_need, budget_check, best_short, BestPromise}
-use Rattle.fits.specs.declared.call.FitsAnswer.{FitsAnswer}
-use Rattle.fits.specs.declared.call.FitsAnswer.TheVariants as fits_answer
-use Rattle.fits.specs.Fits.{question, FitsPromise, fits_reply}
+use Rattle.fits.specs.Fits.{FitsAnswer, question, FitsPromise, fits_reply}
 use Rattle.fitting.proofs.Unique.{fits_settled}
 use Rattle.lastly.specs.Lastly.{asked_last, fits_told}
 use Rattle.between.proofs.Unique.{best_settled}
@@ -105,15 +104,14 @@ fits_tells_once N Q law B rates distortions answer x y =
 
 -- An answer buffer that is too short for it: 6 in the place of yes and of no alike, and every refusal as it is.
 abbrev pub short_fits : FitsAnswer → Reply
-short_fits fits_answer.Yes = refused refusal.Buffer
-short_fits fits_answer.No = refused refusal.Buffer
-short_fits (fits_answer.Refused r) = refused r
+short_fits (Ok x) = refused refusal.Buffer
+short_fits (Err r) = refused r
 
 pub short_answer_fits : (answer : ℕ) (r : FitsAnswer) → ltb answer 8 ≡ true → fits_told answer r ≡ short_fits r
 unfolding asked_last
-short_answer_fits answer fits_answer.Yes e = rw e refl
-short_answer_fits answer fits_answer.No e = rw e refl
-short_answer_fits answer (fits_answer.Refused r) e = rw (ne_eqb (number_of r) 0 (never_zero r)) refl
+short_answer_fits answer (Ok true) e = rw e refl
+short_answer_fits answer (Ok false) e = rw e refl
+short_answer_fits answer (Err r) e = rw (ne_eqb (number_of r) 0 (never_zero r)) refl
 
 -- what follows a stage matters only where it passes
 after_stage : (o x y : Option Refusal) → (o ≡ none → x ≡ y) → or_else o x ≡ or_else o y

@@ -3,7 +3,7 @@
 // carries in the high 32 bits; what it answers goes to a lent buffer.
 #![tactic(auto)]
 
-ghost use Rattle.std.specs.Prelude.{◌≡◌, ◌≤◌, [], ◌∷◌, length};
+ghost use Rattle.std.specs.Prelude.{◌≡◌, [], ◌∷◌, length};
 ghost use Rattle.checks.specs.Planning.{asking};
 ghost use Rattle.promise.specs.Promise.{CeilingPromise, MultiplierPromise, MinmaxPromise, AveragePromise, plan_reply, minmax_reply, average_reply};
 ghost use Rattle.best.specs.Best.{BestPromise};
@@ -13,56 +13,40 @@ ghost use Rattle.imports.specs.Import.{import_of};
 ghost use Rattle.exports.specs.Export.{export_text, text_after};
 ghost use Rattle.planfile.specs.Writing.{write_of, write_refusal, file_after};
 ghost use Rattle.fits.specs.Fits.{question, FitsPromise, fits_reply};
-ghost use Rattle.lastly.specs.Lastly.{fits_told};
+ghost use Rattle.lastly.specs.Lastly.{room_told, export_told, fits_told};
 ghost use Rattle.telling.specs.Told.{Told, word_of, lent as Lent};
-ghost use Rattle.telling.specs.Parts.{most_values, answer_reply};
-ghost use Rattle.qpl.specs.Surface.{Tells, read_bytes, room_told, export_told, fields_told};
+ghost use Rattle.qpl.specs.Surface.{Tells, read_bytes, fields_told};
 
 use best::plan::best_plan;
-use checks::stage::{Stage, then};
-use exports::export::export;
+use checks::lent::Tables;
+use fits::asked::Asked;
 use imports::import::import;
 use keys::cost::{Dist, Rate};
-use lastly::fits_told;
+use lastly::{export_told, fits_told, room_told};
 use planfile::read::read_plan;
-use planfile::write::{WriteAnswer, write_plan};
+use planfile::write::write_plan;
 use planner::average::average_plan;
 use planner::ceiling::ceiling_plan;
 use planner::minmax::minmax_plan;
 use planner::multiplier::multiplier_plan;
-use room::room_for;
 use rules::Fields;
-use tables::refusal::Refusal;
-use telling::{
-    Answer, average_answer, export_answer, lent, minmax_answer, plan_answer, read_answer,
-    room_answer, tell, word,
-};
+use telling::{average_answer, lent, minmax_answer, plan_answer, read_answer, tell, word};
 
-// What the reader's answer takes, the longest.
+// What the answers take: the reader's, those of a plan, of a least ceiling and of an average.
 const READ_BYTES: usize = 104;
 
-// The room question, with the answer buffer as the last thing asked for.
-fn room_told(channels: u64, scans: u64, settings: u64, answer: usize) -> Answer
-    ensures { (answer_reply result ≡ room_told channels scans settings answer) × (result.count ≤ most_values) }
-{
-    let room = room_answer(room_for(channels, scans, settings));
-    let asked = room.ended;
-    let values = room.values;
-    let ended = then(asked, answer < 24, Refusal::Buffer);
-    Answer {
-        ended,
-        values,
-        count: room.count,
-    }
-}
+const PLAN_BYTES: usize = 24;
+
+const MINMAX_BYTES: usize = 32;
+
+const AVERAGE_BYTES: usize = 48;
 
 // cells, bytes, scratch
 #[unsafe(no_mangle)]
 pub extern "C" fn qpl_room(channels: u64, scans: u64, settings: u64, answer: &mut [u8]) -> u64
     ensures { Told (room_told channels scans settings (length answer.old)) answer.old result answer.new }
 {
-    let told = room_told(channels, scans, settings, answer.len());
-    tell(told, answer)
+    tell(room_told(channels, scans, settings, answer.len()), answer)
 }
 
 // An encoder's list into the two tables. Nothing but 0 or a refusal goes back.
@@ -80,36 +64,9 @@ pub extern "C" fn qpl_import(
     ensures distortions_after { distortions.new ≡ (import_of scans settings text.now rates.old distortions.old scratch.old).distortions }
     ensures scratch_after { scratch.new ≡ (import_of scans settings text.now rates.old distortions.old scratch.old).scratch }
 {
-    let stage = import(scans, settings, text, rates, distortions, scratch);
-    let Stage::Stopped(refusal) = stage else {
-        return 0;
-    };
-    word(refusal)
-}
-
-// The export, with the answer buffer as part of 6. A short one counts as if no byte were lent for the text, so that none is written; it is
-// asked for once more behind the export, since the text of tables that are forbidden throughout needs no byte.
-fn export_told(
-    scans: u64,
-    settings: u64,
-    rates: &[u32],
-    distortions: &[u32],
-    text: &mut [u8],
-    answer: usize,
-) -> Answer
-    ensures result_value { (answer_reply result ≡ or_answer (export_told scans settings rates.now distortions.now (length text.old) answer) (length (export_text scans settings rates.now distortions.now) ∷ [])) × (result.count ≤ most_values) }
-    ensures text_after { text.new ≡ text_after (export_told scans settings rates.now distortions.now (length text.old) answer) scans settings rates.now distortions.now text.old }
-{
-    let room = lent(8, answer, text.len());
-    let told = export_answer(export(scans, settings, rates, distortions, &mut text[..room]));
-    let asked = told.ended;
-    let values = told.values;
-    let ended = then(asked, answer < 8, Refusal::Buffer);
-    Answer {
-        ended,
-        values,
-        count: told.count,
-    }
+    import(scans, settings, text, rates, distortions, scratch)
+        .err()
+        .map_or(0, word)
 }
 
 // the length
@@ -136,8 +93,7 @@ pub extern "C" fn qpl_read(file: &[u8], settings: &mut [u8], answer: &mut [u8]) 
     ensures settings_after { settings.new ≡ settings_after (read_refusal file.now (Lent read_bytes (length answer.old) (length settings.old))) file.now settings.old }
 {
     let room = lent(READ_BYTES, answer.len(), settings.len());
-    let told = read_plan(file, &mut settings[..room]);
-    tell(read_answer(told), answer)
+    tell(read_answer(read_plan(file, &mut settings[..room])), answer)
 }
 
 // The length of the file follows from its scans, so nothing but 0 or a refusal goes back.
@@ -175,11 +131,7 @@ pub extern "C" fn qpl_write(
         floor: Dist(floor),
         weighted,
     };
-    let told = write_plan(fields, plan, file);
-    match told {
-        WriteAnswer::Written(_) => 0,
-        WriteAnswer::Refused(r) => word(r),
-    }
+    write_plan(fields, plan, file).err().map_or(0, word)
 }
 
 // rate, distortion, peak
@@ -198,18 +150,16 @@ pub extern "C" fn qpl_ceiling(
 ) -> u64
     ensures { Tells plan_reply (λ a. CeilingPromise (asking scans settings law rates.now distortions.now weights.now (Lent 24 (length answer.old) (length plan.old)) (length scratch.old)) ceiling plan.old scratch.old a plan.new scratch.new) answer.old result answer.new }
 {
-    let room = lent(24, answer.len(), plan.len());
-    let told = ceiling_plan(
+    let tables = Tables {
         scans,
         settings,
         law,
-        ceiling,
         rates,
         distortions,
         weights,
-        &mut plan[..room],
-        scratch,
-    );
+    };
+    let room = lent(PLAN_BYTES, answer.len(), plan.len());
+    let told = ceiling_plan(&tables, ceiling, &mut plan[..room], scratch);
     tell(plan_answer(told), answer)
 }
 
@@ -230,19 +180,16 @@ pub extern "C" fn qpl_multiplier(
 ) -> u64
     ensures { Tells plan_reply (λ a. MultiplierPromise (asking scans settings law rates.now distortions.now weights.now (Lent 24 (length answer.old) (length plan.old)) (length scratch.old)) n d plan.old scratch.old a plan.new scratch.new) answer.old result answer.new }
 {
-    let room = lent(24, answer.len(), plan.len());
-    let told = multiplier_plan(
+    let tables = Tables {
         scans,
         settings,
         law,
-        n,
-        d,
         rates,
         distortions,
         weights,
-        &mut plan[..room],
-        scratch,
-    );
+    };
+    let room = lent(PLAN_BYTES, answer.len(), plan.len());
+    let told = multiplier_plan(&tables, n, d, &mut plan[..room], scratch);
     tell(plan_answer(told), answer)
 }
 
@@ -262,18 +209,16 @@ pub extern "C" fn qpl_minmax(
 ) -> u64
     ensures { Tells minmax_reply (λ a. MinmaxPromise (asking scans settings law rates.now distortions.now weights.now (Lent 32 (length answer.old) (length plan.old)) (length scratch.old)) budget plan.old scratch.old a plan.new scratch.new) answer.old result answer.new }
 {
-    let room = lent(32, answer.len(), plan.len());
-    let told = minmax_plan(
+    let tables = Tables {
         scans,
         settings,
         law,
-        budget,
         rates,
         distortions,
         weights,
-        &mut plan[..room],
-        scratch,
-    );
+    };
+    let room = lent(MINMAX_BYTES, answer.len(), plan.len());
+    let told = minmax_plan(&tables, budget, &mut plan[..room], scratch);
     tell(minmax_answer(told), answer)
 }
 
@@ -293,18 +238,16 @@ pub extern "C" fn qpl_average(
 ) -> u64
     ensures { Tells average_reply (λ a. AveragePromise (asking scans settings law rates.now distortions.now weights.now (Lent 48 (length answer.old) (length plan.old)) (length scratch.old)) budget plan.old scratch.old a plan.new scratch.new) answer.old result answer.new }
 {
-    let room = lent(48, answer.len(), plan.len());
-    let told = average_plan(
+    let tables = Tables {
         scans,
         settings,
         law,
-        budget,
         rates,
         distortions,
         weights,
-        &mut plan[..room],
-        scratch,
-    );
+    };
+    let room = lent(AVERAGE_BYTES, answer.len(), plan.len());
+    let told = average_plan(&tables, budget, &mut plan[..room], scratch);
     tell(average_answer(told), answer)
 }
 
@@ -325,19 +268,16 @@ pub extern "C" fn qpl_best(
 ) -> u64
     ensures { Tells plan_reply (λ a. BestPromise (asking scans settings law rates.now distortions.now weights.now (Lent 24 (length answer.old) (length plan.old)) (length choices.old)) budget plan.old choices.old totals.old a plan.new choices.new totals.new) answer.old result answer.new }
 {
-    let room = lent(24, answer.len(), plan.len());
-    let told = best_plan(
+    let tables = Tables {
         scans,
         settings,
         law,
-        budget,
         rates,
         distortions,
         weights,
-        &mut plan[..room],
-        choices,
-        totals,
-    );
+    };
+    let room = lent(PLAN_BYTES, answer.len(), plan.len());
+    let told = best_plan(&tables, budget, &mut plan[..room], choices, totals);
     tell(plan_answer(told), answer)
 }
 
@@ -354,14 +294,13 @@ pub extern "C" fn qpl_fits(
 ) -> u64
     ensures { Tells (fits_told (length answer.old)) (λ a. FitsPromise (question scans settings law budget rates.now distortions.now) (fits_reply a)) answer.old result answer.new }
 {
-    let told = fits_told(
+    let asked = Asked {
         scans,
         settings,
         law,
         budget,
         rates,
         distortions,
-        answer.len(),
-    );
-    tell(told, answer)
+    };
+    tell(fits_told(&asked, answer.len()), answer)
 }

@@ -2,11 +2,10 @@
 // refusal) and the values. What it must write was written by tests/second/room.py.
 #![tactic(auto)]
 
-use room::{Room, RoomAnswer, room_for};
+use room::room_for;
 use shown::answer::{end_line, put, put_answer};
 use std::io;
 use std::io::Write;
-use tables::refusal::Refusal;
 
 const CHANNELS: [u64; 8] = [
     0,
@@ -23,18 +22,11 @@ const SCANS: [u64; 6] = [0, 1, 1024, 1025, 4294967296, 18446744073709551615];
 
 const SETTINGS: [u64; 6] = [0, 1, 16, 17, 4294967296, 18446744073709551615];
 
-fn of_room(a: RoomAnswer) -> Result<Room, Refusal> {
-    match a {
-        RoomAnswer::Given(t) => Ok(t),
-        RoomAnswer::Refused(r) => Err(r),
-    }
-}
-
 fn put_line<W: Write>(out: &mut W, channels: u64, scans: u64, settings: u64) -> io::Result<()> {
     put(out, channels)?;
     put(out, scans)?;
     put(out, settings)?;
-    let answer = of_room(room_for(channels, scans, settings));
+    let answer = room_for(channels, scans, settings);
     put_answer(
         out,
         answer.map(|room| [room.cells, room.bytes, room.scratch]),

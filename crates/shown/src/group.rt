@@ -2,6 +2,7 @@
 use crate::coded::coded;
 use crate::input::{least, number, place, read_full};
 use crate::source::Source;
+use checks::lent::Tables;
 use std::io;
 use std::io::Read;
 
@@ -38,17 +39,6 @@ impl Origin {
             }),
         }
     }
-}
-
-// What is lent to each call of a group, and the numbers that they take.
-#[derive(Clone, Copy)]
-pub struct Tables<'a> {
-    pub scans: u64,
-    pub settings: u64,
-    pub law: u64,
-    pub rates: &'a [u32],
-    pub distortions: &'a [u32],
-    pub weights: &'a [u8],
 }
 
 // A group, of which the numbers and the lengths of the tables are read.

@@ -9,6 +9,7 @@ pub fn read_full<R: Read>(input: &mut R, bytes: &mut [u8]) -> io::Result<usize>
     ensures { IfOk result (λ n. n ≤ length bytes.new) }
 {
     let mut done = 0;
+    // Each turn goes as far as a read came, so there is no range for a `for`.
     while done < bytes.len() {
         let n = input.read(&mut bytes[done..])?;
         if n == 0 {

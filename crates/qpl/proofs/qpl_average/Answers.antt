@@ -1,31 +1,20 @@
 -- `qpl::qpl_average` meets its contract: the call below over the room that is lent, and what it answers told.
-use mathlib.Core.Path.{sym, ap}
+use mathlib.Core.Path.{ap}
 use native.Mathlib.Omega.{arith}
 use lib.ListN.{length}
-use lib.Seq.{length-take-le}
-use Rattle.criteria.specs.Choice.{Problem, InBudget}
-use Rattle.tables.specs.Tables.{table, planning}
-use Rattle.promise.specs.Promise.{average_reply, IsAveragePlan}
+use Rattle.promise.specs.Promise.{average_reply}
 use Rattle.qpl.proofs.LentLaws.{planning_tellable, planning_tells}
 use Rattle.qpl.proofs.qpl_average.Goals as goal
-use Rattle.qpl.proofs.qpl_average.Goals.{Start}
-
-abbrev problem : Start → Problem
-problem s = planning (table s.args.scans s.args.settings s.args.law s.args.rates.now s.args.distortions.now s.args.weights.now)
-
-pub slice_bounds-average_plan-end-2 : goal.slice_bounds-average_plan-end-2
-slice_bounds-average_plan-end-2 c = sym (length-take-le _ _ c.lent-room.ensures.1)
 
 pub tell-requires : goal.tell-requires
 tell-requires c =
     let a = c.args in (
-      c.average_answer.ensures.1,
-      planning_tellable average_reply c.average_plan-told.result 48 a.answer.now a.plan.now {within = InBudget (problem (goal.at.tell-requires c).Start) a.budget} {Plan = IsAveragePlan (problem (goal.at.tell-requires c).Start) a.budget} c.lent-room.ensures c.average_plan-told.ensures
-          c.average_answer.ensures.0 tt (λ t v q. omega (arith, ap length q.values)),
+      omega arith,
+      planning_tellable average_reply _ 48 a.answer.now a.plan.now c.lent-room.ensures c.average_plan-told.ensures c.average_answer.ensures
+          tt (λ t v q. omega (arith, ap length q.values)),
     )
 
 pub returns : goal.returns
 returns c =
     let a = c.args in
-    planning_tells average_reply c.average_plan-told.result 48 a.answer.now a.plan.now {within = InBudget (problem (goal.at.returns c).Start) a.budget} {Plan = IsAveragePlan (problem (goal.at.returns c).Start) a.budget} c.lent-room.ensures c.average_plan-told.ensures
-    c.average_answer.ensures.0 c.tell.ensures
+    planning_tells average_reply _ 48 a.answer.now a.plan.now c.lent-room.ensures c.average_plan-told.ensures c.average_answer.ensures c.tell.ensures

@@ -1,14 +1,15 @@
 -- `qpl::qpl_read` meets its contract: the reader over the room that is lent, and what it answers told.
-use mathlib.Core.Path.{◌≡◌, sym, ap, ◌∙◌}
+use mathlib.Core.Path.{◌≡◌, ap, ◌∙◌}
+use native.Mathlib.Omega.{arith}
 use lib.ListN.{length}
-use lib.Seq.{length-take-le}
 use Rattle.planfile.specs.Reading.{read_of}
 use Rattle.telling.specs.Told.{lent}
 use Rattle.qpl.specs.Surface.{read_bytes}
 use Rattle.telling.specs.Parts.{answer_reply}
 use Rattle.telling.proofs.AnswerLaws.{tellable_as, told_as}
 use Rattle.qpl.proofs.CarryLaws.{read_tellable}
-use Rattle.qpl.proofs.LentLaws.{front_length, read_whole}
+use Rattle.lastly.proofs.FrontLaws.{front_length}
+use Rattle.qpl.proofs.LentLaws.{read_whole}
 use Rattle.qpl.proofs.qpl_read.Goals as goal
 use Rattle.qpl.proofs.qpl_read.Goals.{After-read_answer}
 
@@ -18,17 +19,14 @@ said : (c : After-read_answer) →
     answer_reply c.read_answer.result ≡ read_of a.file.now (lent read_bytes (length a.answer.now) (length a.settings.now))
 said c =
     let a = c.args in
-    c.read_answer.ensures.0
-    ∙ c.read_plan-told.ensures.result_value
+    c.read_answer.ensures
+    ∙ c.read_plan.ensures.result_value
     ∙ ap (read_of a.file.now) (front_length a.settings.now c.lent-room.ensures)
-
-pub slice_bounds-read_plan-end-2 : goal.slice_bounds-read_plan-end-2
-slice_bounds-read_plan-end-2 c = sym (length-take-le _ _ c.lent-room.ensures.1)
 
 pub tell-requires : goal.tell-requires
 tell-requires c =
     let a = c.args in (
-      c.read_answer.ensures.1,
+      omega arith,
       tellable_as (said (goal.at.tell-requires c).After-read_answer) (read_tellable a.file.now (length a.answer.now) (length a.settings.now)),
     )
 
@@ -37,5 +35,5 @@ returns c =
     let a = c.args in record {
       told = told_as a.answer.now c.tell.result c.tell.new.answer (said (goal.at.returns c).After-read_answer) c.tell.ensures;
       settings_after = read_whole a.file.now a.settings.now c.lent-room.result (front_length a.settings.now c.lent-room.ensures)
-          c.read_plan-told.ensures.settings_after;
+          c.read_plan.ensures.settings_after;
     }

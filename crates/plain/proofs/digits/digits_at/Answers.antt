@@ -32,5 +32,5 @@ loop-i-preserved c =
 
 pub returns : goal.returns
 returns c =
-    let e : c.loop-i.i ≡ c.min-most.result = omega arith in
-    digits_found c.args.text.now c.args.from c.min-most.result (rw e at c.loop-i.invariant) (omega arith) (omega arith) (omega arith)
+    let e : c.loop-i.i ≡ c.seven_on-most.result = omega arith in
+    digits_found c.args.text.now c.args.from c.seven_on-most.result (rw e at c.loop-i.invariant) (omega arith) (omega arith) (omega arith)
