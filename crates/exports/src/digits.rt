@@ -3,12 +3,16 @@ ghost use Rattle.std.specs.Prelude.{◌≡◌, ◌+◌, ◌≤◌, ◌<◌, leng
 ghost use Rattle.std.proofs.lemmas.List.Edits.{sets};
 ghost use Rattle.exports.specs.Export.{decimal};
 
-// How many digits a number of at most seven has.
+// How many digits a number of at most seven has. (One digit is told before the logarithm is asked: without that an export of short
+// numbers took longer than by counting.)
 pub fn width(x: u64) -> usize
     requires { x < 10000000 }
     ensures { (result ≡ length (decimal x)) × (result ≤ 7) }
 {
-    x.max(1).ilog10() as usize + 1
+    if x < 10 {
+        return 1;
+    }
+    x.ilog10() as usize + 1
 }
 
 // The digits, from `at` on; the place after them.

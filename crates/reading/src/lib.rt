@@ -8,6 +8,7 @@ ghost use Rattle.reading.specs.Fed.{Starts, Feeds};
 ghost use Rattle.reading.specs.Parts.{Grows, Closes, refusal};
 
 // What stands for every value over the limit, which is that of 32 bits.
+// A number and no Option: the value is cut off just past the limit, as `further` promises.
 const OVER: u64 = 4294967296;
 
 // The word that stands open: none, digits alone with their value (cut off just past the limit), or one with another byte in it.
@@ -18,16 +19,19 @@ pub enum Word {
     Other,
 }
 
+// No heap: the numbers come one after another into what is lent.
 #[derive(Clone, Copy)]
 pub struct State {
     pub word: Word,
     // how many numbers have been taken
     pub taken: usize,
     // a word that is no number stands after them, or one for which there is no room
+    // A flag beside the count, which counts whether it is set or not.
     pub more: bool,
 }
 
 // Nothing is read yet.
+// No `Default`: it promises `Starts`.
 pub fn fresh() -> State
     ensures { Starts result }
 {
@@ -67,10 +71,12 @@ fn next(s: State, c: u8, numbers: &mut [u32]) -> State
     }
 }
 
+// Every test is made, whatever those before it told. Without that, the digit's test first in `grown` and the limit's first in `further`, a long run
+// of digits took a quarter longer to read.
 fn is_separator(c: u8) -> bool
     ensures { result ≡ separator c }
 {
-    matches!(c, b' ' | b'\t' | b'\r' | b'\n')
+    (c == b' ') | (c == b'\t') | (c == b'\r') | (c == b'\n')
 }
 
 pub fn is_digit(c: u8) -> bool
@@ -83,10 +89,13 @@ pub fn is_digit(c: u8) -> bool
 fn grown(w: Word, c: u8) -> Word
     ensures { Grows w c result }
 {
+    if !is_digit(c) {
+        return Word::Other;
+    }
     match w {
-        Word::Between if is_digit(c) => Word::Digits(value(c)),
-        Word::Digits(v) if is_digit(c) => Word::Digits(further(v, value(c))),
-        _ => Word::Other,
+        Word::Between => Word::Digits(value(c)),
+        Word::Digits(v) => Word::Digits(further(v, value(c))),
+        Word::Other => Word::Other,
     }
 }
 
@@ -103,7 +112,10 @@ fn further(v: u64, d: u64) -> u64
     requires { d < 10 }
     ensures { result ≡ min (10 * v + d) (suc most_number) }
 {
-    (10 * v.min(OVER) + d).min(OVER)
+    if OVER <= v {
+        return OVER;
+    }
+    (10 * v + d).min(OVER)
 }
 
 // A separator ends the open word: a number is taken, any other word is refused.

@@ -1,4 +1,6 @@
 // A table by a generator: four numbers on standard input, its seed, base, span and forbid, stand for any count of cells.
+ghost use Rattle.std.specs.Prelude.{◌<◌};
+
 use crate::input::number;
 use std::io;
 use std::io::Read;
@@ -8,7 +10,9 @@ use tables::limits::{FORBIDDEN, MOST_CELL};
 const PRIME: u64 = 2147483647;
 
 // The next number of the stream.
-fn next(x: u32) -> u32 {
+fn next(x: u32) -> u32
+    ensures { result < 2147483647 }
+{
     (u64::from(x) * 48271 % PRIME) as u32
 }
 

@@ -30,11 +30,14 @@ pub fn run(law: u64, before: usize, settings: usize) -> Range<usize>
     requires { (before < settings) × (settings ≤ most_settings) }
     ensures { SideBySide (law_of law) before settings result.start result.end }
 {
+    // Law 0 returns by itself: so a loop over the settings before is compiled once for it and once for the others, with no test of the law inside.
+    if law == 0 {
+        return 0..settings;
+    }
     // Two finer, and the end of two coarser.
     let finest = before.saturating_sub(2);
     let end = (before + 3).min(settings);
     match law {
-        0 => 0..settings,
         1 => finest..end,
         2 => 0..end,
         _ => 0..0,

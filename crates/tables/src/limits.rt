@@ -21,6 +21,7 @@ pub const FORBIDDEN: u32 = 4294967295;
 pub const MOST_TOTAL: u64 = 1073740800;
 
 // More than any of these totals: the total where there is no sequence. With a cell, or with another such total, it still fits 32 bits.
+// A number and no Option: the least of two is `min` alone.
 pub const OVER_TOTAL: u32 = 1073741824;
 
 // The largest n and the largest d of a multiplier.

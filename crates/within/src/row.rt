@@ -110,7 +110,7 @@ pub fn row(
     requires fits { Fits width (over.end * width) place.here place.ahead place.at totals.old choices.old }
     ensures { RowMade (row_offer cells.now.weight cells.now.from width place.ahead cells.now.rates.now cells.now.distortions.now totals.old) width over.start over.end place.here place.at totals.old choices.old totals.new choices.new }
 {
-    // Where no way on is found yet stands more than any sequence comes to.
+    // Where no way on is found yet stands more than any sequence comes to. A number and no `Option`: `totals` is lent, as cells of 32 bits.
     put_all(totals, place.here, width, OVER_TOTAL);
     for q in over.start..over.end {
         consider(totals, choices, place, width, cells, q);

@@ -3,8 +3,8 @@ use native.Mathlib.Omega.{arith}
 use Rattle.tables.proofs.LawLaws.{any_run, within_two_run, two_coarser_run, no_run}
 use Rattle.tables.proofs.law.run.Goals as goal
 
-pub returns-in-0 : goal.returns-in-0
-returns-in-0 c = any_run _ _ _ c.in-0.is
+pub returns-then-law-eq0 : goal.returns-then-law-eq0
+returns-then-law-eq0 c = any_run _ _ _ c.if-law-eq0.true
 
 pub returns-in-1 : goal.returns-in-1
 returns-in-1 c = within_two_run _ _ _ c.in-1.is c.requires.0 c.saturating_sub-finest.ensures c.min-end.ensures

@@ -63,13 +63,14 @@ pick-best-requires-clause-ready c =
     let f = tables (goal.at.pick-best-requires-clause-ready c).Start in
     let r = c.args.rule in
     let w = c.row_into in
-    ready_first (table_in c.args.t.now) r f r.light w.new.row w.new.counts c.loop-i.keys (row_rates c.of_scan-first.ensures r w.new.row refl w.ensures.rates)
-    (row_counts c.of_scan-first.ensures r w.new.counts refl w.ensures.counts) (stepped_done f r.light c.loop-i.invariant.steps).row.capped
+    λ q h. ready_first (table_in c.args.t.now) r f r.light w.new.row w.new.counts c.loop-i.keys (row_rates c.of_scan-first.ensures r w.new.row refl w.ensures.rates)
+    (row_counts c.of_scan-first.ensures r w.new.counts refl w.ensures.counts) (stepped_done f r.light c.loop-i.invariant.steps).row.capped q
+    (omega (arith, h, c.args.t.now.sized.some_settings))
 
 pub store-requires-clause-chosen_bound : goal.store-requires-clause-chosen_bound
 store-requires-clause-chosen_bound c =
     let t = c.args.t.now in (
-      omega (arith, c.pick-best.ensures.best_of.inside),
+      omega (arith, c.pick-best.ensures.best_of.inside, t.sized.some_settings),
       omega (arith, need_more t.scans t.settings 0 t.sized.some_scans, c.requires.room, stepped_long c.loop-i.invariant.steps),
     )
 
