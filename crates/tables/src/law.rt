@@ -30,7 +30,7 @@ pub fn run(law: u64, before: usize, settings: usize) -> Range<usize>
     requires { (before < settings) × (settings ≤ most_settings) }
     ensures { SideBySide (law_of law) before settings result.start result.end }
 {
-    // Law 0 returns by itself: so a loop over the settings before is compiled once for it and once for the others, with no test of the law inside.
+    // Law 0 returns by itself: as an arm beside the others it had the pass of `qpl_fits` take a quarter more instructions at Q 16.
     if law == 0 {
         return 0..settings;
     }
